@@ -1,0 +1,7 @@
+pub mod Bits
+pub mod KindBits
+pub mod OneByte
+pub mod Order
+pub mod Past
+pub mod Product
+pub mod Same

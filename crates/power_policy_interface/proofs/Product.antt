@@ -1,0 +1,11 @@
+-- A product of two numbers below 2 ^ k is below 2 ^ (k + k).
+-- Assumes nothing.
+use Prim.Native.Nat.{ℕ, _*_, _+_, _<_, _^_}
+use mathlib.Core.Path.{subst⁻¹}
+use native.Mathlib.Nat.{lt-of-le-of-lt, le-of-lt, mul-le-mul-left, mul-lt-mul-of-pos-right}
+use lib.Pow.{pow-add, pow-pos}
+
+pub below : (k : ℕ) {a b : ℕ} → a < 2 ^ k → b < 2 ^ k → a * b < 2 ^ (k + k)
+below k {a} {b} ha hb =
+    subst⁻¹ (λ (n : ℕ). a * b < n) (pow-add 2 k k)
+    (lt-of-le-of-lt (mul-le-mul-left a (le-of-lt hb)) (mul-lt-mul-of-pos-right ha (pow-pos k)))

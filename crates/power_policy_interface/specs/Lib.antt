@@ -1,0 +1,5 @@
+pub mod Order
+pub mod Capability
+pub mod Psu
+pub mod Charger
+pub mod Service

@@ -1,0 +1,4 @@
+pub mod Group
+pub mod Row
+pub mod Psu
+pub mod Charger

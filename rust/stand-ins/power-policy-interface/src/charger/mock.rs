@@ -1,0 +1,1 @@
+//! Stand-in: empty. The original holds a mock charger that nothing here uses.

@@ -1,0 +1,53 @@
+#!/bin/sh
+# usage: against-rust.sh
+#
+# Compares the port with the original Rust, where its sources stand beside the repository (../shared/docs/src, or
+# POWER_POLICY_RUST). Needs the programs that `rt ci` leaves in target/bin. Where the sources are not there it says so: the
+# stored answers have then been replayed by `rt ci` all the same.
+# Its last line is 'N passed, M failed'.
+set -u
+cd "$(dirname "$0")/.." || exit 2
+src=${POWER_POLICY_RUST:-../shared/docs/src}
+passed=0
+failed=0
+if [ ! -d "$src" ]; then
+    echo "the original Rust is not at $src: not compared in this run"
+    echo "0 passed, 0 failed"
+    exit 0
+fi
+if ! command -v cargo >/dev/null; then
+    echo "no cargo: the original Rust at $src cannot be built"
+    echo "0 passed, 1 failed"
+    exit 1
+fi
+work=$(mktemp -d)
+trap 'rm -rf "$work"' EXIT
+
+test_that() { # WHAT COMMAND..
+    what=$1
+    shift
+    if "$@" >"$work/log" 2>&1; then
+        passed=$((passed + 1))
+        echo "ok: $what"
+    else
+        failed=$((failed + 1))
+        cat "$work/log"
+        echo "FAILED: $what"
+    fi
+}
+
+none_differ() { # PROGRAM FILE
+    "target/bin/$1" <"$2" | tee "$work/said"
+    grep -q -E '^[1-9][0-9]* vectors, 0 differ$' "$work/said"
+}
+
+test_that "the stand-ins and the driver do what they say" rust/check-oracle.sh
+rust/run-oracle.sh interface sample >"$work/interface" && rust/run-oracle.sh records sample >>"$work/interface"
+test_that "the stored answers are those of the Rust and of document 01" cmp "$work/interface" crates/replay/stdin
+rust/run-oracle.sh interface full >"$work/full"
+test_that "every transition on the whole grid" none_differ replay "$work/full"
+rust/run-oracle.sh records full >"$work/full"
+test_that "every record with a byte changed, every flag byte, rows short and long" none_differ replay "$work/full"
+
+echo "$passed passed, $failed failed"
+[ "$failed" -eq 0 ]
