@@ -1,0 +1,3 @@
+pub mod Providers
+pub mod Display
+pub mod Notices

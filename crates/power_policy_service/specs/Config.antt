@@ -1,0 +1,55 @@
+-- The configurations of document 01: USB Type-C's 5 V at 3,000 mA and at 1,500 mA, 15,000 mW, no minimum.
+use Prim.Native.Nat.{ℕ}
+use mathlib.Core.Bool.{Bool, true, false, cond, _&&_}
+use lib.Dec.{leb, eqb}
+use Rattle.power_policy_interface.specs.declared.capability.PowerCapability.{PowerCapability}
+use Rattle.power_policy_service.specs.declared.config.Config.{Config}
+use Rattle.power_policy_service.specs.declared.config.OptionConfig.{OptionConfig}
+use Rattle.power_policy_service.specs.declared.config.OptionMilliwatts.{OptionMilliwatts}
+use Rattle.power_policy_service.specs.declared.config.ReadMinimum.{ReadMinimum}
+
+-- USB Type-C: a source at 5 V advertises 3 A or 1.5 A
+abbrev pub typeC3A : PowerCapability
+typeC3A = record { «voltage_mv» = 5000; «current_ma» = 3000 }
+
+abbrev pub typeC1A5 : PowerCapability
+typeC1A5 = record { «voltage_mv» = 5000; «current_ma» = 1500 }
+
+abbrev pub rustDefault : Config
+rustDefault =
+    record {
+      «limited_power_threshold_mw» = 15000;
+      «provider_unlimited» = typeC3A;
+      «provider_limited» = typeC1A5;
+      «min_consumer_threshold_mw» = OptionMilliwatts.None;
+    }
+
+abbrev pub defaultConfig : Config
+defaultConfig = rustDefault
+
+-- presence 0: no minimum, whatever the figure; 1: the figure, which fits 32 bits; above 1 is refused
+abbrev pub minimumFrom : ℕ → ℕ → ReadMinimum
+minimumFrom presence minimum =
+    cond (eqb presence 0) (ReadMinimum.Read OptionMilliwatts.None)
+    (cond (leb presence 1)
+    (cond (leb minimum 0xffff_ffff) (ReadMinimum.Read (OptionMilliwatts.Some minimum)) ReadMinimum.Refused)
+    ReadMinimum.Refused)
+
+abbrev pub configWith : ℕ → PowerCapability → PowerCapability → ReadMinimum → OptionConfig
+configWith t u l ReadMinimum.Refused = OptionConfig.None
+configWith t u l (ReadMinimum.Read m) =
+    OptionConfig.Some
+    (record {
+      «limited_power_threshold_mw» = t;
+      «provider_unlimited» = u;
+      «provider_limited» = l;
+      «min_consumer_threshold_mw» = m;
+    })
+
+-- every figure fits its Rust type
+abbrev pub configFrom : ℕ → ℕ → ℕ → ℕ → ℕ → ℕ → ℕ → OptionConfig
+configFrom t uv ua lv la presence minimum =
+    cond (leb t 0xffff_ffff && (leb uv 0xffff && (leb ua 0xffff && (leb lv 0xffff && leb la 0xffff))))
+    (configWith t (record { «voltage_mv» = uv; «current_ma» = ua }) (record { «voltage_mv» = lv; «current_ma» = la })
+    (minimumFrom presence minimum))
+    OptionConfig.None

@@ -1,0 +1,4 @@
+pub mod Rows
+pub mod Config
+pub mod Consumer
+pub mod Provider

@@ -1,0 +1,22 @@
+-- A port's and a charger's record in a row. Past the end of a row getD gives its last argument, which no count reaches.
+use Prim.Native.Nat.{ℕ}
+use mathlib.Core.List.{List}
+use lib.ListN.{getD}
+use Rattle.power_policy_interface.specs.declared.capability.OptionConsumerPowerCapability.{OptionConsumerPowerCapability}
+use Rattle.power_policy_interface.specs.declared.capability.OptionProviderPowerCapability.{OptionProviderPowerCapability}
+use Rattle.power_policy_interface.specs.declared.charger.InternalState.{InternalState}
+use Rattle.power_policy_interface.specs.declared.charger.State as charger
+use Rattle.power_policy_interface.specs.declared.psu.PsuState.{PsuState}
+use Rattle.power_policy_interface.specs.declared.psu.State as psu
+
+abbrev pub psuAt : List psu.State → ℕ → psu.State
+psuAt l i =
+    getD l i
+    (record {
+      «psu_state» = PsuState.Idle;
+      «consumer_capability» = OptionConsumerPowerCapability.None;
+      «requested_provider_capability» = OptionProviderPowerCapability.None;
+    })
+
+abbrev pub chargerAt : List charger.State → ℕ → charger.State
+chargerAt l i = getD l i (record { state = InternalState.Unpowered; capability = OptionConsumerPowerCapability.None })
