@@ -1,0 +1,20 @@
+-- One answer for each test of the definition.
+use borrow.Author.Tests.{le-leb, lt-leb}
+use borrow.Author.Needs.{needs}
+use Rattle.follower.proofs.take_picture.Statement.{statement}
+use Rattle.follower.proofs.take_picture.Tie as tie
+
+returns : tie.Need-returns
+returns c = rw (le-leb _ _ (c .if1 .taken))
+
+above-requires : tie.Need-above-requires
+above-requires c κs = search needs
+
+settle-requires : tie.Need-settle-requires
+settle-requires c κs = search needs
+
+returns-2 : tie.Need-returns-2
+returns-2 c = rw (c .settle .ensures, c .before .above .ensures, lt-leb _ _ (c .before .before .if1 .left))
+
+pub take-picture-spec : {M : Type 1} → statement M
+take-picture-spec = tie.close (tie.spec returns above-requires settle-requires returns-2)

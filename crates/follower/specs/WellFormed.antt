@@ -1,0 +1,65 @@
+-- The followers that takes lead to (proofs/Kept.antt), and that an image is to be read as.
+use Prim.Native.Nat.{ℕ, zero, suc, _+_, _%_, _≤_, _<_}
+use mathlib.Core.Bool.{Bool, true, false, _&&_, _||_}
+use mathlib.Core.Path.{_≡_}
+use mathlib.Core.Logic.{_⊎_}
+use lib.Dec.{eqb, leb}
+use lib.ListN.{length}
+use Rattle.display.specs.declared.notices.Notices.{Notices}
+use Rattle.display.specs.declared.packet.EventPacket.{EventPacket}
+use Rattle.display.specs.declared.packet.Packet.{Packet}
+use Rattle.follower.specs.declared.Follower.{Follower}
+use Rattle.follower.specs.declared.Shown.{Shown}
+use Rattle.follower.specs.declared.held.Held.{Held}
+use Rattle.follower.specs.Held.{none, nothing, packetAt}
+
+-- a number of 32 bits
+abbrev pub largest : ℕ
+largest = 4294967295
+
+-- place i holds no packet, or that of an event from lo to hi whose place it is
+abbrev pub InPlace : ℕ → ℕ → ℕ → EventPacket → Type 0
+InPlace lo hi i p = (p ≡ none) ⊎ ((lo ≤ p .number) × (p .number ≤ hi) × (p .number ≤ largest) × (p .number % 8 ≡ i))
+
+abbrev pub Within : ℕ → ℕ → Held → Type 0
+Within lo hi h = (length (h .packets) ≡ 8) × ((i : ℕ) → i < 8 → InPlace lo hi i (packetAt h i))
+
+-- lost, nothing is held; showing n, what is held are packets of the events n + 2 to n + 8
+abbrev pub WellFormedAt : Shown → Held → Type 0
+WellFormedAt (Shown.Lost floor) h = (floor ≤ largest) × (h ≡ nothing)
+WellFormedAt (Shown.Picture s) h = (s .number ≤ largest) × Within (s .number + 2) (s .number + 8) h
+
+abbrev pub WellFormed : Follower → Type 0
+WellFormed f = WellFormedAt (f .shown) (f .held)
+
+abbrev pub numberIn : Packet → ℕ
+numberIn (Packet.Event e) = e .number
+numberIn (Packet.Picture p) = p .number
+
+-- the same as a test (proofs/Decided.antt)
+abbrev pub noNotices : Notices → Bool
+noNotices Notices.Zero = true
+noNotices (Notices.One a) = false
+noNotices (Notices.Two a b) = false
+noNotices (Notices.Three a b c) = false
+noNotices (Notices.Four a b c d) = false
+
+abbrev pub isNone : EventPacket → Bool
+isNone p = eqb (p .number) 0 && (eqb (p .answer) 0 && (eqb (p .orders) 0 && noNotices (p .notices)))
+
+abbrev pub inPlace : ℕ → ℕ → ℕ → EventPacket → Bool
+inPlace lo hi i p =
+    isNone p || (leb lo (p .number) && (leb (p .number) hi && (leb (p .number) largest && eqb (p .number % 8) i)))
+
+-- a test holds at each of the first k places
+unfoldable pub allPlaces : (ℕ → EventPacket → Bool) → ℕ → Held → Bool
+allPlaces t zero h = true
+allPlaces t (suc k) h = allPlaces t k h && t k (packetAt h k)
+
+abbrev pub wellFormedAt : Shown → Held → Bool
+wellFormedAt (Shown.Lost floor) h = leb floor largest && (eqb (length (h .packets)) 8 && allPlaces (λ i p. isNone p) 8 h)
+wellFormedAt (Shown.Picture s) h =
+    leb (s .number) largest && (eqb (length (h .packets)) 8 && allPlaces (inPlace (s .number + 2) (s .number + 8)) 8 h)
+
+abbrev pub wellFormed : Follower → Bool
+wellFormed f = wellFormedAt (f .shown) (f .held)

@@ -1,0 +1,10 @@
+pub mod Leb128
+pub mod Reading
+pub mod Repeated
+pub mod Stores
+pub mod OneNumber
+pub mod ReadWrite
+pub mod Tracked
+pub mod WriteRead
+pub mod OnePacket
+pub mod Lengths

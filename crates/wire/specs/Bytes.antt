@@ -1,0 +1,76 @@
+-- What is written: the bytes of each field in its place. It is total: a field out of its range is written as it stands, in at most
+-- 64 bytes all the same.
+use Prim.Native.Nat.{ℕ, zero, suc, _/_, _%_}
+use mathlib.Core.Bool.{cond}
+use mathlib.Core.List.{List, [], _∷_, _++_}
+use lib.Dec.{eqb, ltb}
+use lib.ListN.{length}
+use lib.Seq.{sets}
+use Rattle.power_policy_interface.specs.Capability.{bit, consumerFlagsByte, providerFlagsByte, disconnectByte}
+use Rattle.power_policy_interface.specs.declared.capability.PowerCapability.{PowerCapability}
+use Rattle.power_policy_interface.specs.declared.service.UnconstrainedState.{UnconstrainedState}
+use Rattle.power_policy_interface.specs.declared.service.event.Event.{Event}
+use Rattle.display.specs.Notices.{listed, lengthOf}
+use Rattle.display.specs.Providers.{len}
+use Rattle.display.specs.declared.OptionAvailableConsumer.{OptionAvailableConsumer}
+use Rattle.display.specs.declared.packet.EventPacket.{EventPacket}
+use Rattle.display.specs.declared.packet.Packet.{Packet}
+use Rattle.display.specs.declared.packet.Picture.{Picture}
+use Rattle.wire.specs.Number.{leb128}
+use Rattle.wire.specs.declared.packet.Written.{Written}
+
+unfoldable pub capabilityBytes : PowerCapability → List ℕ
+capabilityBytes c = leb128 (c .«voltage_mv») ++ leb128 (c .«current_ma»)
+
+-- port, mV, mA, flags
+unfoldable pub contractBytes : ℕ → PowerCapability → ℕ → List ℕ
+contractBytes port c flags = port ∷ (capabilityBytes c ++ (flags ∷ []))
+
+abbrev pub unconstrainedBytes : UnconstrainedState → List ℕ
+unconstrainedBytes u = bit (u .unconstrained) ∷ u .available ∷ []
+
+unfoldable pub noticeBytes : Event → List ℕ
+noticeBytes (Event.ConsumerDisconnected port d) = 1 ∷ port ∷ disconnectByte d ∷ []
+noticeBytes (Event.ConsumerConnected port c) = 2 ∷ contractBytes port (c .capability) (consumerFlagsByte (c .flags))
+noticeBytes (Event.ProviderDisconnected port) = 3 ∷ port ∷ []
+noticeBytes (Event.ProviderConnected port c) = 4 ∷ contractBytes port (c .capability) (providerFlagsByte (c .flags))
+noticeBytes (Event.Unconstrained u) = 5 ∷ unconstrainedBytes u
+
+abbrev pub allBytes : List Event → List ℕ
+allBytes [] = []
+allBytes (e ∷ l) = noticeBytes e ++ allBytes l
+
+unfoldable pub eventBytes : EventPacket → List ℕ
+eventBytes p =
+    1 ∷ (leb128 (p .number) ++ (p .answer ∷ (leb128 (p .orders) ++ (lengthOf (p .notices) ∷ allBytes (listed (p .notices))))))
+
+unfoldable pub consumerBytes : OptionAvailableConsumer → List ℕ
+consumerBytes OptionAvailableConsumer.None = 0 ∷ []
+consumerBytes (OptionAvailableConsumer.Some c) =
+    1 ∷ contractBytes (c .psu) (c .«consumer_power_capability» .capability) (consumerFlagsByte (c .«consumer_power_capability» .flags))
+
+-- n ports from p on: those whose bits are set in m, rising
+abbrev pub portsFrom : ℕ → ℕ → ℕ → List ℕ
+portsFrom zero p m = []
+portsFrom (suc n) p m = cond (eqb (m % 2) 1) (p ∷ portsFrom n (suc p) (m / 2)) (portsFrom n (suc p) (m / 2))
+
+unfoldable pub portsBytes : ℕ → List ℕ
+portsBytes mask = portsFrom 16 0 mask
+
+unfoldable pub pictureBytes : Picture → List ℕ
+pictureBytes p =
+    2 ∷ (leb128 (p .number) ++ (consumerBytes (p .display .consumer)
+    ++ (bit (p .display .unconstrained .unconstrained)
+    ∷ (p .display .unconstrained .available ∷ (len (p .display .providers) ∷ portsBytes (p .display .providers .mask))))))
+
+abbrev pub packetBytes : Packet → List ℕ
+packetBytes (Packet.Event p) = eventBytes p
+packetBytes (Packet.Picture p) = pictureBytes p
+
+-- 29: a buffer under 64 bytes is left as it was; else the bytes stand at its front, and those past them stay
+
+abbrev pub stored : List ℕ → List ℕ → List ℕ
+stored bytes out = cond (ltb (length out) 64) out (sets out 0 bytes)
+
+abbrev pub writtenOf : List ℕ → List ℕ → Written
+writtenOf bytes out = cond (ltb (length out) 64) (Written.Refused 29) (Written.Length (length bytes))

@@ -1,0 +1,50 @@
+-- The packets that a service writes: each field within what document 01 lays out. A test, so that it can be decided.
+use Prim.Native.Nat.{ℕ}
+use mathlib.Core.Bool.{Bool, true, _&&_}
+use mathlib.Core.List.{List, [], _∷_}
+use lib.Dec.{leb, ltb}
+use Rattle.power_policy_interface.specs.declared.capability.PowerCapability.{PowerCapability}
+use Rattle.power_policy_interface.specs.declared.service.event.Event.{Event}
+use Rattle.display.specs.Notices.{listed}
+use Rattle.display.specs.Providers.{len}
+use Rattle.display.specs.declared.OptionAvailableConsumer.{OptionAvailableConsumer}
+use Rattle.display.specs.declared.packet.EventPacket.{EventPacket}
+use Rattle.display.specs.declared.packet.Packet.{Packet}
+use Rattle.display.specs.declared.packet.Picture.{Picture}
+
+abbrev pub capabilityFits : PowerCapability → Bool
+capabilityFits c = leb (c .«voltage_mv») 65535 && leb (c .«current_ma») 65535
+
+abbrev pub contractFits : ℕ → PowerCapability → Bool
+contractFits port c = leb port 15 && capabilityFits c
+
+abbrev pub noticeFits : Event → Bool
+noticeFits (Event.ConsumerDisconnected port d) = leb port 15
+noticeFits (Event.ConsumerConnected port c) = contractFits port (c .capability)
+noticeFits (Event.ProviderDisconnected port) = leb port 15
+noticeFits (Event.ProviderConnected port c) = contractFits port (c .capability)
+noticeFits (Event.Unconstrained u) = leb (u .available) 16
+
+abbrev pub noticesFit : List Event → Bool
+noticesFit [] = true
+noticesFit (e ∷ l) = noticeFits e && noticesFit l
+
+unfoldable pub eventFits : EventPacket → Bool
+eventFits p =
+    ltb 0 (p .number)
+    && (leb (p .number) 4294967295 && (leb (p .answer) 10 && (leb (p .orders) 35 && noticesFit (listed (p .notices)))))
+
+abbrev pub consumerFits : OptionAvailableConsumer → Bool
+consumerFits OptionAvailableConsumer.None = true
+consumerFits (OptionAvailableConsumer.Some c) = contractFits (c .psu) (c .«consumer_power_capability» .capability)
+
+unfoldable pub pictureFits : Picture → Bool
+pictureFits p =
+    leb (p .number) 4294967295
+    && (consumerFits (p .display .consumer)
+    && (leb (p .display .unconstrained .available) 16
+    && (ltb (p .display .providers .mask) 65536 && leb (len (p .display .providers)) 4)))
+
+abbrev pub wellFormed : Packet → Bool
+wellFormed (Packet.Event p) = eventFits p
+wellFormed (Packet.Picture p) = pictureFits p
