@@ -1,28 +1,89 @@
 // The notices of one event, none to four, in their order.
+use power_policy_interface::capability::DisconnectFlags;
+use power_policy_interface::capability::OptionDisconnectReason;
 use power_policy_interface::service::event::Event;
 ghost use mathlib.Core.Path.{_≡_};
-ghost use Rattle.display.specs.Notices.{pushed, lengthOf, allApplied};
+ghost use Rattle.display.specs.Notices.{empty, pushed, lengthOf, allApplied};
 use crate::Display;
 
-pub enum Notices {
-    Zero,
-    One(Event),
-    Two(Event, Event),
-    Three(Event, Event, Event),
-    Four(Event, Event, Event, Event),
+// The first `count` of the four places are meant; those past them hold a consumer disconnected at port 0 with no reason.
+pub struct Notices {
+    pub count: u8,
+    pub first: Event,
+    pub second: Event,
+    pub third: Event,
+    pub fourth: Event,
 }
 
 impl Notices {
+    // None.
+    pub fn new() -> Self
+        ensures { λ r. ⌜ r ≡ empty ⌝ }
+    {
+        let filler = Event::ConsumerDisconnected(
+            0,
+            DisconnectFlags {
+                reason: OptionDisconnectReason::None,
+            },
+        );
+        Notices {
+            count: 0,
+            first: filler,
+            second: filler,
+            third: filler,
+            fourth: filler,
+        }
+    }
+
     // One notice more; a fifth is dropped (no event gives five).
     pub fn push(self, e: Event) -> Notices
         ensures { λ r. ⌜ r ≡ pushed self e ⌝ }
     {
-        match self {
-            Notices::Zero => Notices::One(e),
-            Notices::One(a) => Notices::Two(a, e),
-            Notices::Two(a, b) => Notices::Three(a, b, e),
-            Notices::Three(a, b, c) => Notices::Four(a, b, c, e),
-            Notices::Four(a, b, c, d) => Notices::Four(a, b, c, d),
+        let count = self.count;
+        let first = self.first;
+        let second = self.second;
+        let third = self.third;
+        let fourth = self.fourth;
+        match count {
+            0 => {
+                return Notices {
+                    count: 1,
+                    first: e,
+                    second,
+                    third,
+                    fourth,
+                };
+            }
+            1 => {
+                return Notices {
+                    count: 2,
+                    first,
+                    second: e,
+                    third,
+                    fourth,
+                };
+            }
+            2 => {
+                return Notices {
+                    count: 3,
+                    first,
+                    second,
+                    third: e,
+                    fourth,
+                };
+            }
+            3 => {
+                return Notices {
+                    count: 4,
+                    first,
+                    second,
+                    third,
+                    fourth: e,
+                };
+            }
+            _ => {
+                return self;
+            }
         }
     }
 
@@ -30,25 +91,36 @@ impl Notices {
     pub fn len(self) -> u8
         ensures { λ r. ⌜ r ≡ lengthOf self ⌝ }
     {
-        match self {
-            Notices::Zero => 0,
-            Notices::One(_) => 1,
-            Notices::Two(_, _) => 2,
-            Notices::Three(_, _, _) => 3,
-            Notices::Four(_, _, _, _) => 4,
+        if 4 < self.count {
+            return 4;
         }
+        self.count
     }
 
     // A display after all of them in order.
-    pub fn apply(self, d: Display) -> Display
+    pub fn apply(self, mut d: Display) -> Display
         ensures { λ r. ⌜ r ≡ allApplied self d ⌝ }
     {
-        match self {
-            Notices::Zero => d,
-            Notices::One(a) => d.apply(a),
-            Notices::Two(a, b) => d.apply(a).apply(b),
-            Notices::Three(a, b, c) => d.apply(a).apply(b).apply(c),
-            Notices::Four(a, b, c, e) => d.apply(a).apply(b).apply(c).apply(e),
+        let count = self.count;
+        if count == 0 {
+            return d;
         }
+        let mut e = self.first;
+        d = d.apply(e);
+        if count == 1 {
+            return d;
+        }
+        e = self.second;
+        d = d.apply(e);
+        if count == 2 {
+            return d;
+        }
+        e = self.third;
+        d = d.apply(e);
+        if count == 3 {
+            return d;
+        }
+        e = self.fourth;
+        d.apply(e)
     }
 }

@@ -1,7 +1,8 @@
 -- The edges of document 01 as theorems about the definitions that the contracts cite: the record is the table, `edges` its proof.
 use mathlib.Core.Path.{_≡_, refl, ap, sym, subst}
 use mathlib.Core.Bool.{Bool, true, false, cond}
-use Prim.Native.Nat.{ℕ}
+use mathlib.Core.List.{List, [], _∷_}
+use Prim.Native.Nat.{ℕ, _<_}
 use lib.Dec.{T}
 use Rattle.power_policy_interface.specs.Capability.{maxPowerMw, sameOptionProvider}
 use Rattle.power_policy_interface.specs.Psu.{attachOf, updateRequestedOf, invalidState, withKind}
@@ -13,7 +14,30 @@ use Rattle.power_policy_interface.specs.declared.psu.StateKind.{StateKind}
 use Rattle.power_policy_interface.specs.declared.psu.State.{State}
 use Rattle.power_policy_interface.specs.declared.psu.Result.{Result}
 use Rattle.power_policy_interface.specs.declared.psu.Transition.{Transition}
+use Rattle.power_policy_interface.specs.declared.capability.ConsumerPowerCapability.{ConsumerPowerCapability}
+use Rattle.power_policy_interface.specs.declared.capability.OptionPsuType.{OptionPsuType}
+use Rattle.power_policy_interface.specs.declared.capability.ProviderPowerCapability.{ProviderPowerCapability}
+use Rattle.power_policy_interface.specs.declared.charger.State as charger
+use Rattle.power_policy_interface.specs.declared.psu.event.EventData.{EventData}
+use Rattle.power_policy_interface.specs.declared.service.event.Event.{Event}
 use Rattle.power_policy_interface.proofs.Same.{option-provider-refl}
+use Rattle.display.specs.declared.OptionAvailableConsumer.{OptionAvailableConsumer}
+use Rattle.power_policy_service.specs.Config.{rustDefault}
+use Rattle.power_policy_service.specs.Consumer.{eligible, available, bestOf}
+use Rattle.power_policy_service.specs.Provider.{powerStateOf}
+use Rattle.power_policy_service.specs.Rows.{psuAt}
+use Rattle.power_policy_service.specs.declared.config.OptionMilliwatts.{OptionMilliwatts}
+use Rattle.power_policy_service.specs.declared.provider.PowerState.{PowerState}
+use Rattle.power_policy_service.proofs.Choice.{only-chosen}
+use Rattle.event.specs.Memory.{freshState, stateWith}
+use Rattle.event.specs.declared.memory.InternalState.{InternalState}
+use Rattle.event.specs.declared.memory.Records.{Records}
+use Rattle.event.specs.declared.memory.Registration.{Registration}
+use Rattle.event.specs.declared.phase.Order.{Order}
+use Rattle.service.specs.declared.Step.{Step}
+use Rattle.interaction.specs.Action.{Interaction, done}
+use Rattle.interaction.specs.Interaction.{updateUnconstrainedState, connectBest, updateCurrentConsumer, postProviderConnected, provide, connectProvider, removeProvider, postProviderRemoved, processPsuEvent, event}
+use Rattle.interaction.specs.Served.{fedBy, brings}
 
 abbrev mW : ℕ → ℕ → ℕ
 mW v a = maxPowerMw (record { «voltage_mv» = v; «current_ma» = a })
@@ -21,28 +45,110 @@ mW v a = maxPowerMw (record { «voltage_mv» = v; «current_ma» = a })
 abbrev psu : PsuState → OptionConsumerPowerCapability → OptionProviderPowerCapability → State
 psu p c r = record { «psu_state» = p; «consumer_capability» = c; «requested_provider_capability» = r }
 
+-- offers, requests and contracts without flags
+
+abbrev offer : ℕ → ℕ → ConsumerPowerCapability
+offer v a =
+    record {
+      capability = record { «voltage_mv» = v; «current_ma» = a };
+      flags = record { «unconstrained_power» = false; «psu_type» = OptionPsuType.None };
+    }
+
+abbrev contract : ℕ → ℕ → ProviderPowerCapability
+contract v a =
+    record { capability = record { «voltage_mv» = v; «current_ma» = a }; flags = record { «psu_type» = OptionPsuType.None } }
+
+abbrev nothing : State
+nothing = psu PsuState.Idle OptionConsumerPowerCapability.None OptionProviderPowerCapability.None
+
+abbrev offering : ConsumerPowerCapability → State
+offering c = psu PsuState.Idle (OptionConsumerPowerCapability.Some c) OptionProviderPowerCapability.None
+
+abbrev requesting : ProviderPowerCapability → State
+requesting c = psu PsuState.Idle OptionConsumerPowerCapability.None (OptionProviderPowerCapability.Some c)
+
+abbrev providing : ProviderPowerCapability → State
+providing c = psu (PsuState.ConnectedProvider c) OptionConsumerPowerCapability.None OptionProviderPowerCapability.None
+
+-- the Rust's default configuration, so many ports and no charger
+abbrev ports : ℕ → Registration
+ports n = record { config = rustDefault; ports = n; chargers = 0 }
+
+abbrev rows : List State → Records
+rows l = record { psus = l; chargers = [] }
+
+-- no consumer, nothing unconstrained, and the ports of these bits tracked
+abbrev tracking : ℕ → PowerState → InternalState
+tracking mask s =
+    stateWith OptionAvailableConsumer.None s (record { unconstrained = false; available = 0 }) (record { mask = mask })
+
+-- the event of this port, opened with these records
+abbrev opened : ℕ → ℕ → EventData → InternalState → List State → Interaction
+opened n p e s l = event (ports n) p e s (rows l)
+
 pub record Edges : Type 0 where
   -- P1: 5,000 mV, 3,000 mA is 15,000 mW; 999 mV, 1 mA is 0; 65,535 twice is 4,294,836
   pub P1-type-c : mW 5000 3000 ≡ 15000
   pub P1-rounded-down : mW 999 1 ≡ 0
   pub P1-most : mW 65535 65535 ≡ 4294836
+  -- P2: no capability anywhere: none, whatever the minimum and the current consumer
+  pub P2 : (minimum : OptionMilliwatts) (current : OptionAvailableConsumer) (psus : List State) (n : ℕ)
+      → ((p : ℕ) → p < n → psuAt psus p .«consumer_capability» ≡ OptionConsumerPowerCapability.None)
+      → OptionAvailableConsumer.None ≡ bestOf minimum current psus n
+  -- P3: minimum 7,500: 7,500 is eligible, 7,499 not
+  pub P3-met : eligible (OptionMilliwatts.Some 7500) (offering (offer 5000 1500)) ≡ OptionConsumerPowerCapability.Some (offer 5000 1500)
+  pub P3-missed : eligible (OptionMilliwatts.Some 7500) (offering (offer 7499 1000)) ≡ OptionConsumerPowerCapability.None
+  -- P4: ports 0 and 2 at 15,000: current 2 gives 2, no current gives 0
+  pub P4-current : bestOf OptionMilliwatts.None (available 2 (offer 5000 3000)) (offering (offer 15000 1000) ∷ nothing ∷ offering (offer 5000 3000) ∷ []) 3
+      ≡ available 2 (offer 5000 3000)
+  pub P4-none : bestOf OptionMilliwatts.None OptionAvailableConsumer.None (offering (offer 15000 1000) ∷ nothing ∷ offering (offer 5000 3000) ∷ []) 3
+      ≡ available 0 (offer 15000 1000)
+  -- P5: total 15,000 Unlimited, 15,001 Limited
+  pub P5-unlimited : powerStateOf rustDefault 15000 ≡ PowerState.Unlimited
+  pub P5-limited : powerStateOf rustDefault 15001 ≡ PowerState.Limited
+  -- P6: a lone request 15,000 mV, 1,000 mA is granted 5,000 mV, 3,000 mA
+  pub P6 : brings (opened 1 0 EventData.RequestedProviderCapability freshState (requesting (contract 15000 1000) ∷ []))
+      ≡ Step.Order (Order.ConnectProvider 0 (contract 5000 3000))
+  -- P7: request 5,000 mV, 500 mA beside a contract of 15,000 mW: granted 5,000 mV, 1,500 mA
+  pub P7 : brings (opened 2 0 EventData.RequestedProviderCapability freshState (requesting (contract 5000 500) ∷ providing (contract 5000 3000) ∷ []))
+      ≡ Step.Order (Order.ConnectProvider 0 (contract 5000 1500))
   -- P8: attach in Idle is InvalidState (expected {Detached}, bit 1; actual Idle), and the record stays Idle
   pub P8 : (c : OptionConsumerPowerCapability) (r : OptionProviderPowerCapability)
       → attachOf (psu PsuState.Idle c r) ≡ record { result = Result.Err (invalidState 1 StateKind.Idle); state = psu PsuState.Idle c r }
   -- P9: an equal request on a Detached record is no error
   pub P9 : (c : OptionConsumerPowerCapability) (r : OptionProviderPowerCapability)
       → updateRequestedOf (psu PsuState.Detached c r) r ≡ record { result = Result.Ok; state = psu PsuState.Detached c r }
+  -- P10: fifth provider (0 to 3 are tracked): notice, not tracked, no notice on removal
+  pub P10-connected :
+      fedBy (opened 5 4 EventData.RequestedProviderCapability (tracking 15 PowerState.Unlimited) (nothing ∷ nothing ∷ nothing ∷ nothing ∷ requesting (contract 5000 500) ∷ []))
+      ((0, rows []) ∷ [])
+      ≡ done Result.Ok (record { state = tracking 15 PowerState.Unlimited; notices = Event.ProviderConnected 4 (contract 5000 500) ∷ [] })
+  pub P10-removed : (e : PowerState)
+      → opened 5 4 EventData.Detached (tracking 15 e) (nothing ∷ nothing ∷ nothing ∷ nothing ∷ nothing ∷ [])
+      ≡ done Result.Ok (record { state = tracking 15 e; notices = [] })
 
 is-true : (b : Bool) → T b → b ≡ true
 is-true true t = refl
 is-true false t = absurd t
 
 pub edges : Edges
+unfolding processPsuEvent connectProvider provide postProviderConnected postProviderRemoved removeProvider updateCurrentConsumer connectBest updateUnconstrainedState
 edges =
     record {
       P1-type-c = refl;
       P1-rounded-down = refl;
       P1-most = refl;
+      P2 = λ minimum current psus n h. only-chosen minimum current psus n OptionAvailableConsumer.None (λ p l. rw (h p l));
+      P3-met = refl;
+      P3-missed = refl;
+      P4-current = refl;
+      P4-none = refl;
+      P5-unlimited = refl;
+      P5-limited = refl;
+      P6 = refl;
+      P7 = refl;
       P8 = λ c r. refl;
       P9 = λ c r. rw (is-true (sameOptionProvider r r) (option-provider-refl r));
+      P10-connected = refl;
+      P10-removed = λ e. refl;
     }

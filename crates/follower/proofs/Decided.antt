@@ -7,9 +7,11 @@ use mathlib.Core.Logic.{_⊎_, inl, inr, ⊎-elim}
 use Prim.Native.Nat.{ℕ, zero, suc, _+_, _%_, _<_}
 use native.Mathlib.Omega.{arith}
 use lib.Dec.{eqb, leb, ltb}
-use lib.ListN.{length, replicate}
+use lib.ListN.{length, replicate, take}
 use lib.Seq.{ext-getD}
 use borrow.Author.Tests.{eqb-true, leb-true, eq-eqb, le-leb, ltb-true, ltb-false}
+use Rattle.display.proofs.Four.{one-value}
+use Rattle.display.specs.Notices.{places, empty, padded}
 use Rattle.display.specs.declared.notices.Notices.{Notices}
 use Rattle.display.specs.declared.packet.EventPacket.{EventPacket}
 use Rattle.follower.specs.declared.Follower.{Follower}
@@ -34,12 +36,11 @@ or-right : (a b : Bool) → b ≡ true → (a || b) ≡ true
 or-right true b e = refl
 or-right false b e = e
 
-zero-notices : (n : Notices) → noNotices n ≡ true → n ≡ Notices.Zero
-zero-notices Notices.Zero e = refl
-zero-notices (Notices.One a) e = absurd (let z : _≡_ {A = ℕ} 0 1 = cc in omega arith)
-zero-notices (Notices.Two a b) e = absurd (let z : _≡_ {A = ℕ} 0 1 = cc in omega arith)
-zero-notices (Notices.Three a b c) e = absurd (let z : _≡_ {A = ℕ} 0 1 = cc in omega arith)
-zero-notices (Notices.Four a b c d) e = absurd (let z : _≡_ {A = ℕ} 0 1 = cc in omega arith)
+zero-notices : (n : Notices) → noNotices n ≡ true → n ≡ empty
+zero-notices n e =
+    let a = both (eqb (n .count) 0) (padded n) e in
+    let z : n .count ≡ 0 = eqb-true (n .count) 0 (a .0) in
+    one-value n empty (a .1) refl (ap (λ (k : ℕ). take k (places n)) z)
 
 none-true : (p : EventPacket) → isNone p ≡ true → p ≡ none
 none-true p e =
@@ -49,7 +50,7 @@ none-true p e =
     let x : p .number ≡ 0 = eqb-true (p .number) 0 (a .0) in
     let y : p .answer ≡ 0 = eqb-true (p .answer) 0 (b .0) in
     let z : p .orders ≡ 0 = eqb-true (p .orders) 0 (c .0) in
-    let w : p .notices ≡ Notices.Zero = zero-notices (p .notices) (c .1) in
+    let w : p .notices ≡ empty = zero-notices (p .notices) (c .1) in
     λ i. record { number = x i; answer = y i; orders = z i; notices = w i }
 
 true-none : (p : EventPacket) → p ≡ none → isNone p ≡ true
@@ -59,17 +60,18 @@ place-true : (lo hi i : ℕ) (p : EventPacket) → inPlace lo hi i p ≡ true �
 place-true lo hi i p e =
     ⊎-elim (λ x. inl (none-true p x))
     (λ x.
-    let a = both (leb lo (p .number)) (leb (p .number) hi && (leb (p .number) largest && eqb (p .number % 8) i)) x in
-    let b = both (leb (p .number) hi) (leb (p .number) largest && eqb (p .number % 8) i) (a .1) in
-    let c = both (leb (p .number) largest) (eqb (p .number % 8) i) (b .1) in
-    inr (leb-true _ _ (a .0), leb-true _ _ (b .0), leb-true _ _ (c .0), eqb-true _ _ (c .1)))
-    (either (isNone p) (leb lo (p .number) && (leb (p .number) hi && (leb (p .number) largest && eqb (p .number % 8) i))) e)
+    let a = both (leb lo (p .number)) _ x in
+    let b = both (leb (p .number) hi) _ (a .1) in
+    let c = both (leb (p .number) largest) _ (b .1) in
+    let d = both (eqb (p .number % 8) i) (padded (p .notices)) (c .1) in
+    inr (leb-true _ _ (a .0), leb-true _ _ (b .0), leb-true _ _ (c .0), eqb-true _ _ (d .0), d .1))
+    (either (isNone p) _ e)
 
 true-place : (lo hi i : ℕ) (p : EventPacket) → InPlace lo hi i p → inPlace lo hi i p ≡ true
 true-place lo hi i p (inl e) = rw (true-none p e)
 true-place lo hi i p (inr q) =
-    or-right (isNone p) (leb lo (p .number) && (leb (p .number) hi && (leb (p .number) largest && eqb (p .number % 8) i)))
-    (rw (le-leb _ _ (q .0), le-leb _ _ (q .1), le-leb _ _ (q .2), eq-eqb _ _ (q .3)))
+    or-right (isNone p) _
+    (rw (le-leb _ _ (q .0), le-leb _ _ (q .1), le-leb _ _ (q .2), eq-eqb _ _ (q .3), q .4))
 
 -- a test at each place
 all-tested : (t : ℕ → EventPacket → Bool) (k : ℕ) (h : Held) (i : ℕ) (b : Bool) → ltb i k ≡ b → i < suc k

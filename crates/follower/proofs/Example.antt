@@ -7,7 +7,7 @@ use Rattle.power_policy_interface.specs.declared.capability.OptionPsuType.{Opti
 use Rattle.power_policy_interface.specs.declared.capability.PsuType.{PsuType}
 use Rattle.power_policy_interface.specs.declared.service.event.Event as notice
 use Rattle.display.specs.Display.{fresh}
-use Rattle.display.specs.declared.notices.Notices.{Notices}
+use Rattle.display.specs.Notices.{empty, pushed}
 use Rattle.display.specs.declared.packet.Packet.{Packet}
 use Rattle.display.specs.declared.packet.Picture.{Picture}
 use Rattle.follower.specs.Follower as follower
@@ -22,7 +22,7 @@ picture0 = Packet.Picture (record { number = 0; display = fresh })
 
 -- 01 02 00 00 00: event 2, done, no orders, no notices
 abbrev event2 : Packet
-event2 = Packet.Event (record { number = 2; answer = 0; orders = 0; notices = Notices.Zero })
+event2 = Packet.Event (record { number = 2; answer = 0; orders = 0; notices = empty })
 
 -- 01 01 00 02 01 02 01 A0 9C 01 B8 17 02: event 1, done, two orders, consumer connected at port 1 with 20,000 mV, 3,000 mA, TypeC
 abbrev event1 : Packet
@@ -33,7 +33,7 @@ event1 =
       answer = 0;
       orders = 2;
       notices =
-          Notices.One
+          pushed empty
           (notice.Event.ConsumerConnected 1
           (record {
             capability = record { «voltage_mv» = 20000; «current_ma» = 3000 };
@@ -43,7 +43,7 @@ event1 =
 
 -- 01 03 07 01 00: event 3, answer 7, one order, no notices
 abbrev event3 : Packet
-event3 = Packet.Event (record { number = 3; answer = 7; orders = 1; notices = Notices.Zero })
+event3 = Packet.Event (record { number = 3; answer = 7; orders = 1; notices = empty })
 
 -- a line of `follow`: n, state, consumer port, its mW
 record Line : Type 0 where

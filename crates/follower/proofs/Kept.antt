@@ -10,7 +10,7 @@ use lib.Dec.{eqb, leb, ltb, lit<}
 use lib.ListN.{length, getD, set, replicate, length-set}
 use lib.Seq.{getD-set-same, getD-set-other}
 use borrow.Author.Tests.{eqb-true, eqb-false, leb-false, ltb-false}
-use Rattle.display.specs.Notices.{allApplied}
+use Rattle.display.specs.Notices.{allApplied, padded}
 use Rattle.display.specs.declared.Display.{Display}
 use Rattle.display.specs.declared.packet.EventPacket.{EventPacket}
 use Rattle.display.specs.declared.packet.Packet.{Packet}
@@ -20,7 +20,7 @@ use Rattle.follower.specs.declared.Shown.{Shown}
 use Rattle.follower.specs.declared.held.Held.{Held}
 use Rattle.follower.specs.Held.{none, nothing, packetAt, heldFor, holds, put, placed, dropped, greatest, above}
 use Rattle.follower.specs.Follower.{lost, showing, at, fresh, inTurn, settled, takenAt, taken}
-use Rattle.follower.specs.WellFormed.{largest, InPlace, Within, WellFormedAt, WellFormed, numberIn}
+use Rattle.follower.specs.WellFormed.{largest, InPlace, Within, WellFormedAt, WellFormed, Readable}
 use Rattle.follower.proofs.Laws.{greatest-le}
 
 mod8 : (m : ℕ) → m % 8 < 8
@@ -37,7 +37,7 @@ nothing-within lo hi = (refl, λ i l. inl (none-at 8 i))
 -- wider bounds
 wider : (lo hi lo' hi' : ℕ) (h : Held) → lo' ≤ lo → hi ≤ hi' → Within lo hi h → Within lo' hi' h
 wider lo hi lo' hi' h a b w =
-    (w .0, λ i l. ⊎-elim (λ e. inl e) (λ q. inr (omega (arith, q .0), omega (arith, q .1), q .2, q .3)) (w .1 i l))
+    (w .0, λ i l. ⊎-elim (λ e. inl e) (λ q. inr (omega (arith, q .0), omega (arith, q .1), q .2, q .3, q .4)) (w .1 i l))
 
 -- a packet at its place, the others as they were
 put-tested : (lo hi : ℕ) (h : Held) (j : ℕ) (p : EventPacket) → j < 8 → length (h .packets) ≡ 8 → InPlace lo hi j p
@@ -58,7 +58,7 @@ put-within lo hi h j p l e q r =
 -- the next event is not held: what is held comes after it
 stop-within : (n hi : ℕ) (h : Held) → (heldFor h (n + 1) .number ≡ n + 1 → ⊥) → Within (n + 1) hi h → Within (n + 2) hi h
 stop-within n hi h z w =
-    (w .0, λ i l. ⊎-elim (λ e. inl e) (λ q. inr (later i (q .3) (q .0), q .1, q .2, q .3)) (w .1 i l))
+    (w .0, λ i l. ⊎-elim (λ e. inl e) (λ q. inr (later i (q .3) (q .0), q .1, q .2, q .3, q .4)) (w .1 i l))
   where
     later : (i : ℕ) → packetAt h i .number % 8 ≡ i → n + 1 ≤ packetAt h i .number → n + 2 ≤ packetAt h i .number
     later i e l = tested (eqb (packetAt h i .number) (n + 1)) refl
@@ -76,7 +76,7 @@ stop-within n hi h z w =
 go-within : (n hi : ℕ) (h : Held) → Within (n + 1) hi h → Within (n + 2) hi (dropped h (n + 1))
 go-within n hi h w =
     put-within (n + 2) hi h ((n + 1) % 8) none (mod8 (n + 1)) (w .0) (inl refl)
-    (λ i l t. ⊎-elim (λ e. inl e) (λ q. inr (later i t (q .3) (q .0), q .1, q .2, q .3)) (w .1 i l))
+    (λ i l t. ⊎-elim (λ e. inl e) (λ q. inr (later i t (q .3) (q .0), q .1, q .2, q .3, q .4)) (w .1 i l))
   where
     later : (i : ℕ) → eqb i ((n + 1) % 8) ≡ false → packetAt h i .number % 8 ≡ i → n + 1 ≤ packetAt h i .number → n + 2 ≤ packetAt h i .number
     later i t e l =
@@ -164,25 +164,27 @@ picture-within n m h l w =
     (s .0, λ i li. ⊎-elim (λ e. inl e) (λ q. ⊎-elim (λ e. inl (q .0 ∙ e)) (λ z. inr (stays i li q z)) (w .1 i li)) (s .1 i li))
   where
     stays : (i : ℕ) → i < 8 → (packetAt (above m 8 h) i ≡ packetAt h i) × (i < 8 → m < packetAt (above m 8 h) i .number)
-        → (n + 2 ≤ packetAt h i .number) × (packetAt h i .number ≤ n + 8) × (packetAt h i .number ≤ largest) × (packetAt h i .number % 8 ≡ i)
+        → (n + 2 ≤ packetAt h i .number) × (packetAt h i .number ≤ n + 8) × (packetAt h i .number ≤ largest)
+        × (packetAt h i .number % 8 ≡ i) × (padded (packetAt h i .notices) ≡ true)
         → (m + 1 ≤ packetAt (above m 8 h) i .number) × (packetAt (above m 8 h) i .number ≤ m + 8)
         × (packetAt (above m 8 h) i .number ≤ largest) × (packetAt (above m 8 h) i .number % 8 ≡ i)
+        × (padded (packetAt (above m 8 h) i .notices) ≡ true)
     stays i li q z =
         let a : packetAt (above m 8 h) i .number ≡ packetAt h i .number = ap (λ (p : EventPacket). p .number) (q .0) in
-        (omega (arith, q .1 li), omega (arith, z .1), omega (arith, z .2), ap (λ (x : ℕ). x % 8) a ∙ z .3)
+        (omega (arith, q .1 li), omega (arith, z .1), omega (arith, z .2), ap (λ (x : ℕ). x % 8) a ∙ z .3, ap (λ (p : EventPacket). padded (p .notices)) (q .0) ∙ z .4)
 
-event-within : (n : ℕ) (h : Held) (e : EventPacket) → n < e .number → e .number ≤ n + 8 → e .number ≤ largest
-    → Within (n + 2) (n + 8) h → Within (n + 1) (n + 8) (placed h e)
+event-within : (n : ℕ) (h : Held) (e : EventPacket) → n < e .number → e .number ≤ n + 8
+    → (e .number ≤ largest) × (padded (e .notices) ≡ true) → Within (n + 2) (n + 8) h → Within (n + 1) (n + 8) (placed h e)
 event-within n h e a b c w =
-    put-within (n + 1) (n + 8) h (e .number % 8) e (mod8 (e .number)) (w .0) (inr (omega arith, b, c, refl))
+    put-within (n + 1) (n + 8) h (e .number % 8) e (mod8 (e .number)) (w .0) (inr (omega arith, b, c .0, refl, c .1))
     (λ i l t. wider (n + 2) (n + 8) (n + 1) (n + 8) h (omega arith) (omega arith) w .1 i l)
 
-event-tested : (s : Picture) (h : Held) (e : EventPacket) → WellFormed (showing s h) → e .number ≤ largest → (x y z : Bool)
+event-tested : (s : Picture) (h : Held) (e : EventPacket) → WellFormed (showing s h) → Readable (Packet.Event e) → (x y z : Bool)
     → leb (e .number) (s .number) ≡ x → ltb (s .number + 8) (e .number) ≡ y
     → WellFormed (cond x (showing s h) (cond y (lost (greatest (e .number) 8 h)) (cond z (showing s h) (settled s (placed h e)))))
 event-tested s h e w l true y z p q = w
 event-tested s h e w l false true z p q =
-    (greatest-le (e .number) largest 8 h l (held-small (s .number + 2) (s .number + 8) h (w .1)), refl)
+    (greatest-le (e .number) largest 8 h (l .0) (held-small (s .number + 2) (s .number + 8) h (w .1)), refl)
 event-tested s h e w l false false true p q = w
 event-tested s h e w l false false false p q =
     settled-kept s (placed h e) (w .0) (event-within (s .number) h e (leb-false _ _ p) (ltb-false _ _ q) l (w .1))
@@ -197,8 +199,8 @@ lost-tested : (floor : ℕ) (h : Held) (p : Picture) → WellFormedAt (Shown.Los
 lost-tested floor h p w l true = w
 lost-tested floor h p w l false = (l, nothing-within (p .number + 2) (p .number + 8))
 
-kept-at : (x : Shown) (h : Held) (p : Packet) → WellFormedAt x h → numberIn p ≤ largest → WellFormed (takenAt x h p)
-kept-at (Shown.Lost floor) h (Packet.Event e) w l = (max-le (w .0) l, refl)
+kept-at : (x : Shown) (h : Held) (p : Packet) → WellFormedAt x h → Readable p → WellFormed (takenAt x h p)
+kept-at (Shown.Lost floor) h (Packet.Event e) w l = (max-le (w .0) (l .0), refl)
 kept-at (Shown.Lost floor) h (Packet.Picture p) w l = lost-tested floor h p w l (ltb (p .number) floor)
 kept-at (Shown.Picture s) h (Packet.Event e) w l =
     event-tested s h e w l (leb (e .number) (s .number)) (ltb (s .number + 8) (e .number)) (holds h (e .number)) refl refl
@@ -207,5 +209,5 @@ kept-at (Shown.Picture s) h (Packet.Picture p) w l = picture-tested s h p w l (l
 pub fresh-kept : WellFormed fresh
 fresh-kept = (omega arith, refl)
 
-pub take-kept : (f : Follower) (p : Packet) → WellFormed f → numberIn p ≤ largest → WellFormed (taken f p)
+pub take-kept : (f : Follower) (p : Packet) → WellFormed f → Readable p → WellFormed (taken f p)
 take-kept f p w l = kept-at (f .shown) (f .held) p w l

@@ -3,12 +3,12 @@ use Prim.Native.Nat.{ℕ, zero, suc, _%_, max}
 use mathlib.Core.Bool.{Bool, true, cond, _&&_}
 use lib.Dec.{eqb, leb}
 use lib.ListN.{getD, set, replicate}
-use Rattle.display.specs.declared.notices.Notices.{Notices}
+use Rattle.display.specs.Notices.{empty}
 use Rattle.display.specs.declared.packet.EventPacket.{EventPacket}
 use Rattle.follower.specs.declared.held.Held.{Held}
 
 abbrev pub none : EventPacket
-none = record { number = 0; answer = 0; orders = 0; notices = Notices.Zero }
+none = record { number = 0; answer = 0; orders = 0; notices = empty }
 
 abbrev pub nothing : Held
 nothing = record { packets = replicate 8 none }

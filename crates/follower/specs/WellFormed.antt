@@ -1,10 +1,11 @@
 -- The followers that takes lead to (proofs/Kept.antt), and that an image is to be read as.
 use Prim.Native.Nat.{ℕ, zero, suc, _+_, _%_, _≤_, _<_}
-use mathlib.Core.Bool.{Bool, true, false, _&&_, _||_}
+use mathlib.Core.Bool.{Bool, true, _&&_, _||_}
 use mathlib.Core.Path.{_≡_}
 use mathlib.Core.Logic.{_⊎_}
 use lib.Dec.{eqb, leb}
 use lib.ListN.{length}
+use Rattle.display.specs.Notices.{padded}
 use Rattle.display.specs.declared.notices.Notices.{Notices}
 use Rattle.display.specs.declared.packet.EventPacket.{EventPacket}
 use Rattle.display.specs.declared.packet.Packet.{Packet}
@@ -17,9 +18,11 @@ use Rattle.follower.specs.Held.{none, nothing, packetAt}
 abbrev pub largest : ℕ
 largest = 4294967295
 
--- place i holds no packet, or that of an event from lo to hi whose place it is
+-- place i holds no packet, or that of an event from lo to hi whose place it is, its notices in their one form
 abbrev pub InPlace : ℕ → ℕ → ℕ → EventPacket → Type 0
-InPlace lo hi i p = (p ≡ none) ⊎ ((lo ≤ p .number) × (p .number ≤ hi) × (p .number ≤ largest) × (p .number % 8 ≡ i))
+InPlace lo hi i p =
+    (p ≡ none)
+    ⊎ ((lo ≤ p .number) × (p .number ≤ hi) × (p .number ≤ largest) × (p .number % 8 ≡ i) × (padded (p .notices) ≡ true))
 
 abbrev pub Within : ℕ → ℕ → Held → Type 0
 Within lo hi h = (length (h .packets) ≡ 8) × ((i : ℕ) → i < 8 → InPlace lo hi i (packetAt h i))
@@ -32,24 +35,22 @@ WellFormedAt (Shown.Picture s) h = (s .number ≤ largest) × Within (s .number 
 abbrev pub WellFormed : Follower → Type 0
 WellFormed f = WellFormedAt (f .shown) (f .held)
 
-abbrev pub numberIn : Packet → ℕ
-numberIn (Packet.Event e) = e .number
-numberIn (Packet.Picture p) = p .number
+-- the packets that a take keeps it well formed with, as a reader gives them
+abbrev pub Readable : Packet → Type 0
+Readable (Packet.Event e) = (e .number ≤ largest) × (padded (e .notices) ≡ true)
+Readable (Packet.Picture p) = p .number ≤ largest
 
 -- the same as a test (proofs/Decided.antt)
 abbrev pub noNotices : Notices → Bool
-noNotices Notices.Zero = true
-noNotices (Notices.One a) = false
-noNotices (Notices.Two a b) = false
-noNotices (Notices.Three a b c) = false
-noNotices (Notices.Four a b c d) = false
+noNotices n = eqb (n .count) 0 && padded n
 
 abbrev pub isNone : EventPacket → Bool
 isNone p = eqb (p .number) 0 && (eqb (p .answer) 0 && (eqb (p .orders) 0 && noNotices (p .notices)))
 
 abbrev pub inPlace : ℕ → ℕ → ℕ → EventPacket → Bool
 inPlace lo hi i p =
-    isNone p || (leb lo (p .number) && (leb (p .number) hi && (leb (p .number) largest && eqb (p .number % 8) i)))
+    isNone p
+    || (leb lo (p .number) && (leb (p .number) hi && (leb (p .number) largest && (eqb (p .number % 8) i && padded (p .notices)))))
 
 -- a test holds at each of the first k places
 unfoldable pub allPlaces : (ℕ → EventPacket → Bool) → ℕ → Held → Bool

@@ -18,7 +18,7 @@ pub fn no_packet() -> EventPacket
         number: 0,
         answer: 0,
         orders: 0,
-        notices: Notices::Zero,
+        notices: Notices::new(),
     }
 }
 

@@ -10,7 +10,8 @@ use display::packet::EventPacket;
 use display::packet::Packet;
 use display::packet::Picture;
 ghost use mathlib.Core.Path.{_≡_};
-ghost use Rattle.follower.specs.Follower.{lost, fresh, inTurn, settled, takenEvent, takenPicture, taken, stateOf, numberOf, displayOf, consumerOf, portOf, mwOf};
+ghost use Rattle.display.specs.Notices.{allApplied};
+ghost use Rattle.follower.specs.Follower.{lost, showing, fresh, inTurn, settled, takenEvent, takenPicture, takenAt, taken, stateOf, numberOf, displayOf, consumerOf, portOf, mwOf};
 
 // Lost with a floor, or showing what is held at an event.
 pub enum Shown {
@@ -54,6 +55,24 @@ fn lose(floor: u32) -> Follower
     }
 }
 
+// Showing, with what is held.
+fn show(shown: Picture, held: Held) -> Follower
+    ensures { λ r. ⌜ r ≡ showing shown held ⌝ }
+{
+    Follower {
+        shown: Shown::Picture(shown),
+        held,
+    }
+}
+
+// A display after the notices of a packet.
+fn applied(p: EventPacket, d: Display) -> Display
+    ensures { λ r. ⌜ r ≡ allApplied (p .notices) d ⌝ }
+{
+    let notices = p.notices;
+    notices.apply(d)
+}
+
 // The held packets applied in turn as long as the next number is held; one with an error makes it lost, with the floor.
 fn in_turn(floor: u32, number: u32, display: Display, held: Held) -> Follower
     ensures { λ r. ⌜ r ≡ inTurn 8 floor number display held ⌝ }
@@ -64,7 +83,7 @@ fn in_turn(floor: u32, number: u32, display: Display, held: Held) -> Follower
     let mut i: u32 = 0;
     while i < 8 {
         let place = ((n % 8 + 1) % 8) as usize;
-        let p = packets[place];
+        let mut p = packets[place];
         if p.number <= n {
             break;
         }
@@ -74,10 +93,10 @@ fn in_turn(floor: u32, number: u32, display: Display, held: Held) -> Follower
         if p.answer != 0 {
             return lose(floor);
         }
-        let notices = p.notices;
-        d = notices.apply(d);
+        d = applied(p, d);
         n = p.number;
-        packets[place] = no_packet();
+        p = no_packet();
+        packets[place] = p;
         i += 1;
     }
     Follower {
@@ -106,10 +125,7 @@ fn take_event(shown: Picture, held: Held, e: EventPacket) -> Follower
     let n = shown.number;
     let number = e.number;
     if number <= n {
-        return Follower {
-            shown: Shown::Picture(shown),
-            held,
-        };
+        return show(shown, held);
     }
     if 8 < number - n {
         return lose(held.greatest(number));
@@ -117,10 +133,7 @@ fn take_event(shown: Picture, held: Held, e: EventPacket) -> Follower
     let mut packets = held.packets;
     let place = (number % 8) as usize;
     if packets[place].number == number {
-        return Follower {
-            shown: Shown::Picture(shown),
-            held,
-        };
+        return show(shown, held);
     }
     packets[place] = e;
     settle(shown, Held { packets })
@@ -133,12 +146,43 @@ fn take_picture(shown: Picture, held: Held, p: Picture) -> Follower
     let n = shown.number;
     let m = p.number;
     if m <= n {
-        return Follower {
-            shown: Shown::Picture(shown),
-            held,
-        };
+        return show(shown, held);
     }
     settle(p, held.above(m))
+}
+
+// Lost: an event number raises the floor; a picture numbered at least the floor is shown, another is dropped.
+fn take_lost(floor: u32, held: Held, p: Packet) -> Follower
+    ensures { λ r. ⌜ r ≡ takenAt (Shown.Lost floor) held p ⌝ }
+{
+    match p {
+        Packet::Event(e) => {
+            return lose(greater(floor, e.number));
+        }
+        Packet::Picture(v) => {
+            if v.number < floor {
+                return Follower {
+                    shown: Shown::Lost(floor),
+                    held,
+                };
+            }
+            return show(v, Held::new());
+        }
+    }
+}
+
+// Showing: an event packet or a picture.
+fn take_shown(shown: Picture, held: Held, p: Packet) -> Follower
+    ensures { λ r. ⌜ r ≡ takenAt (Shown.Picture shown) held p ⌝ }
+{
+    match p {
+        Packet::Event(e) => {
+            return take_event(shown, held, e);
+        }
+        Packet::Picture(v) => {
+            return take_picture(shown, held, v);
+        }
+    }
 }
 
 impl Follower {
@@ -156,22 +200,12 @@ impl Follower {
         let shown = self.shown;
         let held = self.held;
         match shown {
-            Shown::Lost(floor) => match p {
-                Packet::Event(e) => lose(greater(floor, e.number)),
-                Packet::Picture(v) => {
-                    if v.number < floor {
-                        return self;
-                    }
-                    Follower {
-                        shown: Shown::Picture(v),
-                        held: Held::new(),
-                    }
-                }
-            },
-            Shown::Picture(s) => match p {
-                Packet::Event(e) => take_event(s, held, e),
-                Packet::Picture(v) => take_picture(s, held, v),
-            },
+            Shown::Lost(floor) => {
+                return take_lost(floor, held, p);
+            }
+            Shown::Picture(s) => {
+                return take_shown(s, held, p);
+            }
         }
     }
 

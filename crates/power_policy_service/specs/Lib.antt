@@ -1,4 +1,5 @@
 pub mod Rows
 pub mod Config
 pub mod Consumer
+pub mod Choice
 pub mod Provider

@@ -13,10 +13,10 @@ use Rattle.power_policy_interface.specs.Capability.{consumerFlagsByte, provider
 use Rattle.power_policy_interface.specs.declared.capability.PowerCapability.{PowerCapability}
 use Rattle.power_policy_interface.specs.declared.service.event.Event.{Event}
 use Rattle.display.proofs.Count.{ones-le}
-use Rattle.display.specs.Notices.{listed, lengthOf}
+use Rattle.display.proofs.Four.{at-most-four}
+use Rattle.display.specs.Notices.{listed, lengthOf, padded}
 use Rattle.display.specs.Providers.{len}
 use Rattle.display.specs.declared.OptionAvailableConsumer.{OptionAvailableConsumer}
-use Rattle.display.specs.declared.notices.Notices.{Notices}
 use Rattle.display.specs.declared.packet.EventPacket.{EventPacket}
 use Rattle.display.specs.declared.packet.Packet.{Packet}
 use Rattle.display.specs.declared.packet.Picture.{Picture}
@@ -57,22 +57,16 @@ all-length (e ∷ l) h =
     let b = all-length l (and-right (noticeFits e) (noticesFit l) h) in
     omega (arith, length-append (noticeBytes e) (allBytes l))
 
-few : (n : Notices) → length (listed n) ≤ 4
-few Notices.Zero = omega arith
-few (Notices.One a) = omega arith
-few (Notices.Two a b) = omega arith
-few (Notices.Three a b c) = omega arith
-few (Notices.Four a b c d) = omega arith
-
 event-length : (p : EventPacket) → eventFits p ≡ true → length (eventBytes p) ≤ 64
 unfolding eventBytes eventFits
 event-length p h =
     let h1 = and-right (ltb 0 (p .number)) _ h in
     let h2 = and-right (leb (p .number) 4294967295) _ h1 in
     let h3 = and-right (leb (p .answer) 10) _ h2 in
-    let f = and-right (leb (p .orders) 35) (noticesFit (listed (p .notices))) h3 in
+    let h4 = and-right (leb (p .orders) 35) _ h3 in
+    let f = and-right (padded (p .notices)) (noticesFit (listed (p .notices))) h4 in
     let tail = lengthOf (p .notices) ∷ allBytes (listed (p .notices)) in
-    omega (arith, length-append (leb128 (p .number)) (p .answer ∷ (leb128 (p .orders) ++ tail)), length-append (leb128 (p .orders)) tail, length-to (p .number), length-to (p .orders), all-length (listed (p .notices)) f, few (p .notices))
+    omega (arith, length-append (leb128 (p .number)) (p .answer ∷ (leb128 (p .orders) ++ tail)), length-append (leb128 (p .orders)) tail, length-to (p .number), length-to (p .orders), all-length (listed (p .notices)) f, at-most-four (p .notices))
 
 consumer-length : (c : OptionAvailableConsumer) → consumerFits c ≡ true → length (consumerBytes c) ≤ 9
 unfolding consumerBytes

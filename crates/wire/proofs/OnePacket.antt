@@ -12,7 +12,8 @@ use lib.ListN.{length}
 use borrow.Author.Tests.{le-leb, leb-true, lt-ltb, eq-eqb, ne-eqb, eqb-true, eqb-false}
 use Rattle.power_policy_interface.specs.declared.service.UnconstrainedState.{UnconstrainedState}
 use Rattle.power_policy_interface.specs.declared.service.event.Event.{Event}
-use Rattle.display.specs.Notices.{pushed, listed, lengthOf}
+use Rattle.display.proofs.Four.{rebuilt, rebuilt-padded, rebuilt-listed}
+use Rattle.display.specs.Notices.{empty, pushed, listed, lengthOf, padded}
 use Rattle.display.specs.Providers.{ones, len}
 use Rattle.display.specs.declared.OptionAvailableConsumer.{OptionAvailableConsumer}
 use Rattle.display.specs.declared.notices.Notices.{Notices}
@@ -27,7 +28,7 @@ use Rattle.wire.specs.Read.{packetRead, readPacket}
 use Rattle.wire.specs.WellFormed.{noticesFit, consumerFits, eventFits, pictureFits, wellFormed}
 use Rattle.wire.specs.declared.packet.ReadPacket.{ReadPacket}
 use Rattle.wire.proofs.OneNumber.{AllBytes}
-use Rattle.wire.proofs.ReadWrite.{appended, count-listed, append-none, event-read-write}
+use Rattle.wire.proofs.ReadWrite.{appended, appended-rebuilt, append-none, event-read-write}
 use Rattle.wire.proofs.Tracked.{addAll, odd, even, count-ports, picture-read-write}
 use Rattle.wire.proofs.WriteRead.{then-told, rest-bytes, byte-told, holds-told, field-told, number-told, consumer-told, unconstrained-told, notice-told}
 
@@ -56,15 +57,6 @@ notices-told (suc k) n s l r h p =
       fit = rw (a .fit, b .fit);
     }
 
-listed-back : (l : List Event) → length l ≤ 4 → listed (appended Notices.Zero l) ≡ l
-unfolding appended
-listed-back [] h = refl
-listed-back (a ∷ []) h = refl
-listed-back (a ∷ b ∷ []) h = refl
-listed-back (a ∷ b ∷ c ∷ []) h = refl
-listed-back (a ∷ b ∷ c ∷ d ∷ []) h = refl
-listed-back (a ∷ b ∷ c ∷ d ∷ e ∷ l) h = absurd (omega arith)
-
 end-told : {A : Type 0} (a b : A) (s r : List ℕ) → end a s ≡ parsed b r → (a ≡ b) × (s ≡ []) × (r ≡ [])
 end-told a b [] r e = ((let k : a ≡ b = cc in k), refl, (let k : r ≡ [] = cc in k))
 end-told a b (x ∷ s) r e = absurd (let z : _≡_ {A = ℕ} 0 1 = cc in omega arith)
@@ -79,22 +71,24 @@ pub record Whole (s : List ℕ) (p : Packet) : Type 0 where
 event-made : (n answer orders count : ℕ) (l : Notices) (p : Packet) (q q1 q2 q3 q4 : List ℕ)
     → q ≡ leb128 n ++ q1 → q1 ≡ answer ∷ q2 → q2 ≡ leb128 orders ++ q3 → q3 ≡ count ∷ q4
     → ltb 0 n ≡ true → n ≤ 4294967295 → leb answer 10 ≡ true → leb orders 35 ≡ true → leb count 4 ≡ true
-    → Notes count Notices.Zero q4 l []
+    → Notes count empty q4 l []
     → Packet.Event (record { number = n; answer = answer; orders = orders; notices = l }) ≡ p
     → Whole (1 ∷ q) p
 unfolding eventBytes eventFits
 event-made n answer orders count l p q q1 q2 q3 q4 e0 e1 e2 e3 h0 h1 h2 h3 h4 t f =
     let small : length (t .events) ≤ 4 = omega (arith, t .count, leb-true count 4 h4) in
-    let list : listed l ≡ t .events = ap listed (t .made) ∙ listed-back (t .events) small in
-    let c : lengthOf l ≡ count = count-listed l ∙ (ap length list ∙ t .count) in
+    let form : l ≡ rebuilt (t .events) = t .made ∙ appended-rebuilt (t .events) small in
+    let list : listed l ≡ t .events = ap listed form ∙ rebuilt-listed (t .events) small in
+    let c : lengthOf l ≡ count = ap length list ∙ t .count in
     let g : q4 ≡ allBytes (listed l) = t .front ∙ (append-none (allBytes (t .events)) ∙ ap allBytes (sym list)) in
     let b : 1 ∷ q ≡ 1 ∷ (leb128 n ++ (answer ∷ (leb128 orders ++ (lengthOf l ∷ allBytes (listed l))))) =
     ap (λ (x : List ℕ). 1 ∷ x)
     (e0
     ∙ ap (λ (x : List ℕ). leb128 n ++ x)
     (e1 ∙ ap (λ (x : List ℕ). answer ∷ x) (e2 ∙ ap (λ (x : List ℕ). leb128 orders ++ x) (e3 ∙ (λ i. sym c i ∷ g i))))) in
+    let v : padded l ≡ true = ap padded form ∙ rebuilt-padded (t .events) in
     let w : noticesFit (listed l) ≡ true = ap noticesFit list ∙ t .fit in
-    record { bytes = b ∙ ap packetBytes f; fits = ap wellFormed (sym f) ∙ rw (h0, le-leb n 4294967295 h1, h2, h3, w) }
+    record { bytes = b ∙ ap packetBytes f; fits = ap wellFormed (sym f) ∙ rw (h0, le-leb n 4294967295 h1, h2, h3, v, w) }
 
 event-told : (q : List ℕ) (p : Packet) (r : List ℕ) → AllBytes q → event q ≡ parsed p r → Whole (1 ∷ q) p
 unfolding event eventAfter eventNotices
@@ -113,9 +107,9 @@ event-told q p r h e =
     let f = then-told (field 4 (d .rest)) _ p r (o .1) in
     let f1 = field-told 4 (d .rest) (f .value) (f .rest) (f .first) in
     let hf = rest-bytes (d .rest) (f .value ∷ []) (f .rest) (f1 .0) hd in
-    let g = then-told (notices (f .value) Notices.Zero (f .rest)) _ p r (f .second) in
+    let g = then-told (notices (f .value) empty (f .rest)) _ p r (f .second) in
     let z = end-told _ p (g .rest) r (g .second) in
-    let t = notices-told (f .value) Notices.Zero (f .rest) (g .value) [] hf (g .first ∙ ap (λ (x : List ℕ). parsed (g .value) x) (z .1)) in
+    let t = notices-told (f .value) empty (f .rest) (g .value) [] hf (g .first ∙ ap (λ (x : List ℕ). parsed (g .value) x) (z .1)) in
     event-made (a .value) (c .value) (d .value) (f .value) (g .value) p q (a .rest) (c .rest) (d .rest) (f .rest) (a1 .0) (c1 .0) (d1 .0) (f1 .0) (b .0) (a1 .1) (c1 .1) (o .0) (f1 .1) t (z .0)
 
 -- tracked ports: rising, so the sum of their bits has just these bits

@@ -7,14 +7,15 @@ use Prim.Native.Nat.{ℕ, _≤_}
 use native.Mathlib.Omega.{arith}
 use lib.Dec.{eqb, leb, ltb}
 use lib.ListN.{length}
-use borrow.Author.Tests.{leb-true}
+use borrow.Author.Tests.{le-leb, leb-true}
 use Rattle.power_policy_interface.proofs.OneByte.{consumer-read-write, provider-read-write, reason-read-write}
 use Rattle.power_policy_interface.specs.Capability.{bit, consumerFlagsByte, providerFlagsByte, disconnectByte}
 use Rattle.power_policy_interface.specs.declared.capability.PowerCapability.{PowerCapability}
 use Rattle.power_policy_interface.specs.declared.capability.ConsumerFlags.{ConsumerFlags}
 use Rattle.power_policy_interface.specs.declared.service.UnconstrainedState.{UnconstrainedState}
 use Rattle.power_policy_interface.specs.declared.service.event.Event.{Event}
-use Rattle.display.specs.Notices.{pushed, listed, lengthOf}
+use Rattle.display.specs.Notices.{empty, pushed, listed, lengthOf, padded}
+use Rattle.display.proofs.Four.{at-most-four, rebuilt, padded-rebuilt}
 use Rattle.display.specs.declared.notices.Notices.{Notices}
 use Rattle.display.specs.declared.packet.EventPacket.{EventPacket}
 use Rattle.display.specs.declared.packet.Packet.{Packet}
@@ -96,27 +97,20 @@ notices-back [] n r h = refl
 notices-back (e ∷ l) n r h =
     rw (append-assoc (noticeBytes e) (allBytes l) r, notice-back e (allBytes l ++ r) (and-left (noticeFits e) (noticesFit l) h)) (notices-back l (pushed n e) r (and-right (noticeFits e) (noticesFit l) h))
 
-all-listed : (n : Notices) → appended Notices.Zero (listed n) ≡ n
+pub appended-rebuilt : (l : List Event) → length l ≤ 4 → appended empty l ≡ rebuilt l
 unfolding appended
-all-listed Notices.Zero = refl
-all-listed (Notices.One a) = refl
-all-listed (Notices.Two a b) = refl
-all-listed (Notices.Three a b c) = refl
-all-listed (Notices.Four a b c d) = refl
+appended-rebuilt [] h = refl
+appended-rebuilt (a ∷ []) h = refl
+appended-rebuilt (a ∷ b ∷ []) h = refl
+appended-rebuilt (a ∷ b ∷ c ∷ []) h = refl
+appended-rebuilt (a ∷ b ∷ c ∷ d ∷ []) h = refl
+appended-rebuilt (a ∷ b ∷ c ∷ d ∷ e ∷ l) h = absurd (omega arith)
 
-pub count-listed : (n : Notices) → lengthOf n ≡ length (listed n)
-count-listed Notices.Zero = refl
-count-listed (Notices.One a) = refl
-count-listed (Notices.Two a b) = refl
-count-listed (Notices.Three a b c) = refl
-count-listed (Notices.Four a b c d) = refl
+all-listed : (n : Notices) → padded n ≡ true → appended empty (listed n) ≡ n
+all-listed n h = appended-rebuilt (listed n) (at-most-four n) ∙ padded-rebuilt n h
 
 count-fits : (n : Notices) → leb (lengthOf n) 4 ≡ true
-count-fits Notices.Zero = refl
-count-fits (Notices.One a) = refl
-count-fits (Notices.Two a b) = refl
-count-fits (Notices.Three a b c) = refl
-count-fits (Notices.Four a b c d) = refl
+count-fits n = le-leb (lengthOf n) 4 (at-most-four n)
 
 pub append-none : (l : List ℕ) → l ++ [] ≡ l
 append-none [] = refl
@@ -134,10 +128,12 @@ event-read-write p h =
     let c = and-left (leb (p .answer) 10) _ h2 in
     let h3 = and-right (leb (p .answer) 10) _ h2 in
     let d = and-left (leb (p .orders) 35) _ h3 in
-    let f = and-right (leb (p .orders) 35) (noticesFit (listed (p .notices))) h3 in
+    let h4 = and-right (leb (p .orders) 35) _ h3 in
+    let g = and-left (padded (p .notices)) _ h4 in
+    let f = and-right (padded (p .notices)) (noticesFit (listed (p .notices))) h4 in
     let o : p .orders ≤ 4294967295 = omega (arith, leb-true (p .orders) 35 d) in
     let n = p .notices in
     let tail = lengthOf n ∷ allBytes (listed n) in
-    let all : notices (lengthOf n) Notices.Zero (allBytes (listed n)) ≡ parsed n [] =
-    rw (count-listed n, ← append-none (allBytes (listed n))) (notices-back (listed n) Notices.Zero [] f ∙ ap (λ (m : Notices). parsed m []) (all-listed n)) in
+    let all : notices (lengthOf n) empty (allBytes (listed n)) ≡ parsed n [] =
+    rw (← append-none (allBytes (listed n))) (notices-back (listed n) empty [] f ∙ ap (λ (m : Notices). parsed m []) (all-listed n g)) in
     rw (number-back 4294967295 (p .number) (p .answer ∷ (leb128 (p .orders) ++ tail)) b b, a, field-back 10 (p .answer) (leb128 (p .orders) ++ tail) c, number-back 4294967295 (p .orders) tail o o, d, field-back 4 (lengthOf n) (allBytes (listed n)) (count-fits n), all)

@@ -103,9 +103,9 @@ number-bounds l s v u e = number-told l s v u (digitsRead 4 s) (used-digits 4 s)
 
 -- nothing left over
 
-pub empty : (s : List ℕ) → length s ≡ 0 → s ≡ []
-empty [] h = refl
-empty (b ∷ s) h = absurd (omega arith)
+pub none-left : (s : List ℕ) → length s ≡ 0 → s ≡ []
+none-left [] h = refl
+none-left (b ∷ s) h = absurd (omega arith)
 
 pub some-left : {A : Type 0} (a : A) (s : List ℕ) → (length s ≡ 0 → ⊥) → end a s ≡ refused 33
 some-left a [] h = absurd (h refl)

@@ -3,9 +3,7 @@
 use Prim.Native.Nat.{ℕ, zero, suc, _/_, _%_}
 use mathlib.Core.Bool.{cond}
 use mathlib.Core.List.{List, [], _∷_, _++_}
-use lib.Dec.{eqb, ltb}
-use lib.ListN.{length}
-use lib.Seq.{sets}
+use lib.Dec.{eqb}
 use Rattle.power_policy_interface.specs.Capability.{bit, consumerFlagsByte, providerFlagsByte, disconnectByte}
 use Rattle.power_policy_interface.specs.declared.capability.PowerCapability.{PowerCapability}
 use Rattle.power_policy_interface.specs.declared.service.UnconstrainedState.{UnconstrainedState}
@@ -17,7 +15,6 @@ use Rattle.display.specs.declared.packet.EventPacket.{EventPacket}
 use Rattle.display.specs.declared.packet.Packet.{Packet}
 use Rattle.display.specs.declared.packet.Picture.{Picture}
 use Rattle.wire.specs.Number.{leb128}
-use Rattle.wire.specs.declared.packet.Written.{Written}
 
 unfoldable pub capabilityBytes : PowerCapability → List ℕ
 capabilityBytes c = leb128 (c .«voltage_mv») ++ leb128 (c .«current_ma»)
@@ -66,11 +63,3 @@ pictureBytes p =
 abbrev pub packetBytes : Packet → List ℕ
 packetBytes (Packet.Event p) = eventBytes p
 packetBytes (Packet.Picture p) = pictureBytes p
-
--- 29: a buffer under 64 bytes is left as it was; else the bytes stand at its front, and those past them stay
-
-abbrev pub stored : List ℕ → List ℕ → List ℕ
-stored bytes out = cond (ltb (length out) 64) out (sets out 0 bytes)
-
-abbrev pub writtenOf : List ℕ → List ℕ → Written
-writtenOf bytes out = cond (ltb (length out) 64) (Written.Refused 29) (Written.Length (length bytes))

@@ -14,7 +14,7 @@ use Rattle.power_policy_interface.specs.declared.capability.DisconnectFlags.{Di
 use Rattle.power_policy_interface.specs.declared.capability.OptionDisconnectFlags.{OptionDisconnectFlags}
 use Rattle.power_policy_interface.specs.declared.service.UnconstrainedState.{UnconstrainedState}
 use Rattle.power_policy_interface.specs.declared.service.event.Event.{Event}
-use Rattle.display.specs.Notices.{pushed}
+use Rattle.display.specs.Notices.{empty, pushed}
 use Rattle.display.specs.declared.AvailableConsumer.{AvailableConsumer}
 use Rattle.display.specs.declared.OptionAvailableConsumer.{OptionAvailableConsumer}
 use Rattle.display.specs.declared.notices.Notices.{Notices}
@@ -129,7 +129,7 @@ ports (suc k) low mask = do
 unfoldable pub eventNotices : ℕ → ℕ → ℕ → Parser Packet
 eventNotices n answer orders = do
   count ← field 4
-  l ← notices count Notices.Zero
+  l ← notices count empty
   end (Packet.Event (record { number = n; answer = answer; orders = orders; notices = l }))
 
 unfoldable pub eventAfter : ℕ → Parser Packet

@@ -1,11 +1,12 @@
--- The packets that a service writes: each field within what document 01 lays out. A test, so that it can be decided.
+-- The packets that a service writes: each field within what document 01 lays out, and notices in their one form. A test, so that it can
+-- be decided.
 use Prim.Native.Nat.{ℕ}
 use mathlib.Core.Bool.{Bool, true, _&&_}
 use mathlib.Core.List.{List, [], _∷_}
 use lib.Dec.{leb, ltb}
 use Rattle.power_policy_interface.specs.declared.capability.PowerCapability.{PowerCapability}
 use Rattle.power_policy_interface.specs.declared.service.event.Event.{Event}
-use Rattle.display.specs.Notices.{listed}
+use Rattle.display.specs.Notices.{listed, padded}
 use Rattle.display.specs.Providers.{len}
 use Rattle.display.specs.declared.OptionAvailableConsumer.{OptionAvailableConsumer}
 use Rattle.display.specs.declared.packet.EventPacket.{EventPacket}
@@ -32,7 +33,8 @@ noticesFit (e ∷ l) = noticeFits e && noticesFit l
 unfoldable pub eventFits : EventPacket → Bool
 eventFits p =
     ltb 0 (p .number)
-    && (leb (p .number) 4294967295 && (leb (p .answer) 10 && (leb (p .orders) 35 && noticesFit (listed (p .notices)))))
+    && (leb (p .number) 4294967295
+    && (leb (p .answer) 10 && (leb (p .orders) 35 && (padded (p .notices) && noticesFit (listed (p .notices))))))
 
 abbrev pub consumerFits : OptionAvailableConsumer → Bool
 consumerFits OptionAvailableConsumer.None = true

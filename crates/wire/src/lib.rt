@@ -1,3 +1,4 @@
-// The link's format (document 01, "Packets and follower"): numbers, event packets and full pictures as bytes, read and written.
+// The link's format (document 01, "Packets and follower"): numbers read and written, event packets and full pictures read. `wire_writer`
+// writes these.
 pub mod number;
 pub mod packet;

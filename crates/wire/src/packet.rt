@@ -1,4 +1,4 @@
-// The packet of an event and the full picture as bytes. A reading goes from the left: what is met first is what is given, 30 cut
+// The packet of an event and the full picture, read from bytes. A reading goes from the left: what is met first is what is given, 30 cut
 // short, 31 a number not shortest or over its limit, 32 a field not as laid out, 33 bytes left over.
 use crate::number;
 use crate::number::ReadNumber;
@@ -22,11 +22,9 @@ use power_policy_interface::capability::ProviderPowerCapability;
 use power_policy_interface::service::UnconstrainedState;
 use power_policy_interface::service::event::Event;
 ghost use mathlib.Core.Path.{_≡_};
-ghost use Prim.Native.Nat.{_+_, _≤_};
+ghost use Prim.Native.Nat.{_≤_};
 ghost use lib.ListN.{length};
-ghost use lib.Seq.{sets};
-ghost use Rattle.display.specs.Notices.{listed};
-ghost use Rattle.wire.specs.Bytes.{capabilityBytes, contractBytes, noticeBytes, allBytes, consumerBytes, portsBytes, eventBytes, pictureBytes, stored, writtenOf};
+ghost use Rattle.display.specs.Notices.{empty};
 ghost use Rattle.wire.specs.Parser.{then, end, field};
 ghost use Rattle.wire.specs.Packet.{capability, consumer, consumerGiven, unconstrained, noticeOf, notice, notices, ports, event, eventAfter, eventNotices, picture, pictureAfter, consumerDisconnected, consumerConnected, providerDisconnected, providerConnected, unconstrainedChanged};
 ghost use Rattle.wire.specs.Read.{byteRest, byteUsed, capabilityRest, capabilityUsed, consumerRest, consumerUsed, optionConsumerRest, optionConsumerUsed, unconstrainedRest, unconstrainedUsed, noticeRest, noticeUsed, noticesRead, portsRead, packetRead, readPacket};
@@ -106,21 +104,27 @@ fn read_capability(s: &[u8]) -> ReadCapability
     ensures { λ r. ⌜ (capabilityRest (now (s .entry)) r ≡ capability (now (s .entry))) × (capabilityUsed r ≤ length (now (s .entry))) ⌝ }
 {
     match number::read(s, 65535) {
-        ReadNumber::Refused(n) => ReadCapability::Refused(n),
+        ReadNumber::Refused(n) => {
+            return ReadCapability::Refused(n);
+        }
         ReadNumber::Number { value, used } => {
             let rest = &s[used..];
             match number::read(rest, 65535) {
-                ReadNumber::Refused(n) => ReadCapability::Refused(n),
+                ReadNumber::Refused(n) => {
+                    return ReadCapability::Refused(n);
+                }
                 ReadNumber::Number {
                     value: ma,
                     used: more,
-                } => ReadCapability::Capability {
-                    capability: PowerCapability {
-                        voltage_mv: value as u16,
-                        current_ma: ma as u16,
-                    },
-                    used: used + more,
-                },
+                } => {
+                    return ReadCapability::Capability {
+                        capability: PowerCapability {
+                            voltage_mv: value as u16,
+                            current_ma: ma as u16,
+                        },
+                        used: used + more,
+                    };
+                }
             }
         }
     }
@@ -131,28 +135,36 @@ fn read_consumer(s: &[u8]) -> ReadConsumer
     ensures { λ r. ⌜ (consumerRest (now (s .entry)) r ≡ consumer (now (s .entry))) × (consumerUsed r ≤ length (now (s .entry))) ⌝ }
 {
     match read_field(s, 15) {
-        ReadByte::Refused(n) => ReadConsumer::Refused(n),
+        ReadByte::Refused(n) => {
+            return ReadConsumer::Refused(n);
+        }
         ReadByte::Byte(port) => {
             let rest = &s[1..];
             match read_capability(rest) {
-                ReadCapability::Refused(n) => ReadConsumer::Refused(n),
+                ReadCapability::Refused(n) => {
+                    return ReadConsumer::Refused(n);
+                }
                 ReadCapability::Capability { capability, used } => {
                     let last = &rest[used..];
                     if last.len() == 0 {
                         return ReadConsumer::Refused(30);
                     }
                     match ConsumerFlags::from_byte(last[0]) {
-                        OptionConsumerFlags::None => ReadConsumer::Refused(32),
-                        OptionConsumerFlags::Some(flags) => ReadConsumer::Consumer {
-                            consumer: AvailableConsumer {
-                                psu: port,
-                                consumer_power_capability: ConsumerPowerCapability {
-                                    capability,
-                                    flags,
+                        OptionConsumerFlags::None => {
+                            return ReadConsumer::Refused(32);
+                        }
+                        OptionConsumerFlags::Some(flags) => {
+                            return ReadConsumer::Consumer {
+                                consumer: AvailableConsumer {
+                                    psu: port,
+                                    consumer_power_capability: ConsumerPowerCapability {
+                                        capability,
+                                        flags,
+                                    },
                                 },
-                            },
-                            used: used + 2,
-                        },
+                                used: used + 2,
+                            };
+                        }
                     }
                 }
             }
@@ -165,15 +177,21 @@ fn read_unconstrained(s: &[u8]) -> ReadUnconstrained
     ensures { λ r. ⌜ (unconstrainedRest (now (s .entry)) r ≡ unconstrained (now (s .entry))) × (unconstrainedUsed r ≤ length (now (s .entry))) ⌝ }
 {
     match read_field(s, 1) {
-        ReadByte::Refused(n) => ReadUnconstrained::Refused(n),
+        ReadByte::Refused(n) => {
+            return ReadUnconstrained::Refused(n);
+        }
         ReadByte::Byte(u) => {
             let rest = &s[1..];
             match read_field(rest, 16) {
-                ReadByte::Refused(n) => ReadUnconstrained::Refused(n),
-                ReadByte::Byte(available) => ReadUnconstrained::Unconstrained(UnconstrainedState {
-                    unconstrained: u == 1,
-                    available,
-                }),
+                ReadByte::Refused(n) => {
+                    return ReadUnconstrained::Refused(n);
+                }
+                ReadByte::Byte(available) => {
+                    return ReadUnconstrained::Unconstrained(UnconstrainedState {
+                        unconstrained: u == 1,
+                        available,
+                    });
+                }
             }
         }
     }
@@ -184,18 +202,24 @@ fn read_consumer_disconnected(s: &[u8]) -> ReadNotice
     ensures { λ r. ⌜ (noticeRest (now (s .entry)) r ≡ consumerDisconnected (now (s .entry))) × (noticeUsed r ≤ length (now (s .entry))) ⌝ }
 {
     match read_field(s, 15) {
-        ReadByte::Refused(n) => ReadNotice::Refused(n),
+        ReadByte::Refused(n) => {
+            return ReadNotice::Refused(n);
+        }
         ReadByte::Byte(port) => {
             let last = &s[1..];
             if last.len() == 0 {
                 return ReadNotice::Refused(30);
             }
             match DisconnectFlags::from_byte(last[0]) {
-                OptionDisconnectFlags::None => ReadNotice::Refused(32),
-                OptionDisconnectFlags::Some(reason) => ReadNotice::Notice {
-                    notice: Event::ConsumerDisconnected(port, reason),
-                    used: 2,
-                },
+                OptionDisconnectFlags::None => {
+                    return ReadNotice::Refused(32);
+                }
+                OptionDisconnectFlags::Some(reason) => {
+                    return ReadNotice::Notice {
+                        notice: Event::ConsumerDisconnected(port, reason),
+                        used: 2,
+                    };
+                }
             }
         }
     }
@@ -206,13 +230,15 @@ fn read_consumer_connected(s: &[u8]) -> ReadNotice
     ensures { λ r. ⌜ (noticeRest (now (s .entry)) r ≡ consumerConnected (now (s .entry))) × (noticeUsed r ≤ length (now (s .entry))) ⌝ }
 {
     match read_consumer(s) {
-        ReadConsumer::Refused(n) => ReadNotice::Refused(n),
+        ReadConsumer::Refused(n) => {
+            return ReadNotice::Refused(n);
+        }
         ReadConsumer::Consumer { consumer, used } => {
             let c = consumer.consumer_power_capability;
-            ReadNotice::Notice {
+            return ReadNotice::Notice {
                 notice: Event::ConsumerConnected(consumer.psu, c),
                 used,
-            }
+            };
         }
     }
 }
@@ -222,11 +248,15 @@ fn read_provider_disconnected(s: &[u8]) -> ReadNotice
     ensures { λ r. ⌜ (noticeRest (now (s .entry)) r ≡ providerDisconnected (now (s .entry))) × (noticeUsed r ≤ length (now (s .entry))) ⌝ }
 {
     match read_field(s, 15) {
-        ReadByte::Refused(n) => ReadNotice::Refused(n),
-        ReadByte::Byte(port) => ReadNotice::Notice {
-            notice: Event::ProviderDisconnected(port),
-            used: 1,
-        },
+        ReadByte::Refused(n) => {
+            return ReadNotice::Refused(n);
+        }
+        ReadByte::Byte(port) => {
+            return ReadNotice::Notice {
+                notice: Event::ProviderDisconnected(port),
+                used: 1,
+            };
+        }
     }
 }
 
@@ -235,25 +265,33 @@ fn read_provider_connected(s: &[u8]) -> ReadNotice
     ensures { λ r. ⌜ (noticeRest (now (s .entry)) r ≡ providerConnected (now (s .entry))) × (noticeUsed r ≤ length (now (s .entry))) ⌝ }
 {
     match read_field(s, 15) {
-        ReadByte::Refused(n) => ReadNotice::Refused(n),
+        ReadByte::Refused(n) => {
+            return ReadNotice::Refused(n);
+        }
         ReadByte::Byte(port) => {
             let rest = &s[1..];
             match read_capability(rest) {
-                ReadCapability::Refused(n) => ReadNotice::Refused(n),
+                ReadCapability::Refused(n) => {
+                    return ReadNotice::Refused(n);
+                }
                 ReadCapability::Capability { capability, used } => {
                     let last = &rest[used..];
                     if last.len() == 0 {
                         return ReadNotice::Refused(30);
                     }
                     match ProviderFlags::from_byte(last[0]) {
-                        OptionProviderFlags::None => ReadNotice::Refused(32),
-                        OptionProviderFlags::Some(flags) => ReadNotice::Notice {
-                            notice: Event::ProviderConnected(
-                                port,
-                                ProviderPowerCapability { capability, flags },
-                            ),
-                            used: used + 2,
-                        },
+                        OptionProviderFlags::None => {
+                            return ReadNotice::Refused(32);
+                        }
+                        OptionProviderFlags::Some(flags) => {
+                            return ReadNotice::Notice {
+                                notice: Event::ProviderConnected(
+                                    port,
+                                    ProviderPowerCapability { capability, flags },
+                                ),
+                                used: used + 2,
+                            };
+                        }
                     }
                 }
             }
@@ -266,11 +304,15 @@ fn read_unconstrained_changed(s: &[u8]) -> ReadNotice
     ensures { λ r. ⌜ (noticeRest (now (s .entry)) r ≡ unconstrainedChanged (now (s .entry))) × (noticeUsed r ≤ length (now (s .entry))) ⌝ }
 {
     match read_unconstrained(s) {
-        ReadUnconstrained::Refused(n) => ReadNotice::Refused(n),
-        ReadUnconstrained::Unconstrained(u) => ReadNotice::Notice {
-            notice: Event::Unconstrained(u),
-            used: 2,
-        },
+        ReadUnconstrained::Refused(n) => {
+            return ReadNotice::Refused(n);
+        }
+        ReadUnconstrained::Unconstrained(u) => {
+            return ReadNotice::Notice {
+                notice: Event::Unconstrained(u),
+                used: 2,
+            };
+        }
     }
 }
 
@@ -299,20 +341,24 @@ fn read_notice(s: &[u8]) -> ReadNotice
     let kind = s[0];
     let rest = &s[1..];
     match read_notice_of(kind, rest) {
-        ReadNotice::Refused(n) => ReadNotice::Refused(n),
-        ReadNotice::Notice { notice, used } => ReadNotice::Notice {
-            notice,
-            used: used + 1,
-        },
+        ReadNotice::Refused(n) => {
+            return ReadNotice::Refused(n);
+        }
+        ReadNotice::Notice { notice, used } => {
+            return ReadNotice::Notice {
+                notice,
+                used: used + 1,
+            };
+        }
     }
 }
 
 // So many notices and nothing after them: each is read from the rest of the bytes after the one before it.
 fn read_notices(s: &[u8], count: u8) -> ReadNotices
-    ensures { λ r. ⌜ r ≡ noticesRead (then (notices count Notices.Zero (now (s .entry))) end) ⌝ }
+    ensures { λ r. ⌜ r ≡ noticesRead (then (notices count empty (now (s .entry))) end) ⌝ }
 {
     let mut rest = s;
-    let mut found = Notices::Zero;
+    let mut found = Notices::new();
     let mut i: u8 = 0;
     while i < count {
         match read_notice(rest) {
@@ -371,11 +417,15 @@ fn read_option_consumer(present: u8, s: &[u8]) -> ReadOptionConsumer
         };
     }
     match read_consumer(s) {
-        ReadConsumer::Refused(n) => ReadOptionConsumer::Refused(n),
-        ReadConsumer::Consumer { consumer, used } => ReadOptionConsumer::Consumer {
-            consumer: OptionAvailableConsumer::Some(consumer),
-            used,
-        },
+        ReadConsumer::Refused(n) => {
+            return ReadOptionConsumer::Refused(n);
+        }
+        ReadConsumer::Consumer { consumer, used } => {
+            return ReadOptionConsumer::Consumer {
+                consumer: OptionAvailableConsumer::Some(consumer),
+                used,
+            };
+        }
     }
 }
 
@@ -384,7 +434,9 @@ fn read_event(s: &[u8]) -> ReadPacket
     ensures { λ r. ⌜ r ≡ packetRead (event (now (s .entry))) ⌝ }
 {
     match number::read(s, 4294967295) {
-        ReadNumber::Refused(n) => ReadPacket::Refused(n),
+        ReadNumber::Refused(n) => {
+            return ReadPacket::Refused(n);
+        }
         ReadNumber::Number {
             value: number,
             used,
@@ -392,7 +444,7 @@ fn read_event(s: &[u8]) -> ReadPacket
             if number == 0 {
                 return ReadPacket::Refused(32);
             }
-            read_event_after(number, &s[used..])
+            return read_event_after(number, &s[used..]);
         }
     }
 }
@@ -402,11 +454,15 @@ fn read_event_after(number: u32, s: &[u8]) -> ReadPacket
     ensures { λ r. ⌜ r ≡ packetRead (eventAfter number (now (s .entry))) ⌝ }
 {
     match read_field(s, 10) {
-        ReadByte::Refused(n) => ReadPacket::Refused(n),
+        ReadByte::Refused(n) => {
+            return ReadPacket::Refused(n);
+        }
         ReadByte::Byte(answer) => {
             let rest = &s[1..];
             match number::read(rest, 4294967295) {
-                ReadNumber::Refused(n) => ReadPacket::Refused(n),
+                ReadNumber::Refused(n) => {
+                    return ReadPacket::Refused(n);
+                }
                 ReadNumber::Number {
                     value: orders,
                     used,
@@ -414,11 +470,23 @@ fn read_event_after(number: u32, s: &[u8]) -> ReadPacket
                     if 35 < orders {
                         return ReadPacket::Refused(32);
                     }
-                    read_event_notices(number, answer, orders as u8, &rest[used..])
+                    return read_event_notices(number, answer, orders as u8, &rest[used..]);
                 }
             }
         }
     }
+}
+
+// An event packet that was read.
+fn event_packet(number: u32, answer: u8, orders: u8, notices: Notices) -> ReadPacket
+    ensures { λ r. ⌜ r ≡ ReadPacket.Packet (Packet.Event (record { number = number; answer = answer; orders = orders; notices = notices })) ⌝ }
+{
+    ReadPacket::Packet(Packet::Event(EventPacket {
+        number,
+        answer,
+        orders,
+        notices,
+    }))
 }
 
 // The notices of an event packet, and the end.
@@ -426,15 +494,16 @@ fn read_event_notices(number: u32, answer: u8, orders: u8, s: &[u8]) -> ReadPack
     ensures { λ r. ⌜ r ≡ packetRead (eventNotices number answer orders (now (s .entry))) ⌝ }
 {
     match read_field(s, 4) {
-        ReadByte::Refused(n) => ReadPacket::Refused(n),
+        ReadByte::Refused(n) => {
+            return ReadPacket::Refused(n);
+        }
         ReadByte::Byte(count) => match read_notices(&s[1..], count) {
-            ReadNotices::Refused(n) => ReadPacket::Refused(n),
-            ReadNotices::Notices(notices) => ReadPacket::Packet(Packet::Event(EventPacket {
-                number,
-                answer,
-                orders,
-                notices,
-            })),
+            ReadNotices::Refused(n) => {
+                return ReadPacket::Refused(n);
+            }
+            ReadNotices::Notices(notices) => {
+                return event_packet(number, answer, orders, notices);
+            }
         },
     }
 }
@@ -444,22 +513,30 @@ fn read_picture(s: &[u8]) -> ReadPacket
     ensures { λ r. ⌜ r ≡ packetRead (picture (now (s .entry))) ⌝ }
 {
     match number::read(s, 4294967295) {
-        ReadNumber::Refused(n) => ReadPacket::Refused(n),
+        ReadNumber::Refused(n) => {
+            return ReadPacket::Refused(n);
+        }
         ReadNumber::Number {
             value: number,
             used,
         } => {
             let rest = &s[used..];
             match read_field(rest, 1) {
-                ReadByte::Refused(n) => ReadPacket::Refused(n),
+                ReadByte::Refused(n) => {
+                    return ReadPacket::Refused(n);
+                }
                 ReadByte::Byte(present) => {
                     let after = &rest[1..];
                     match read_option_consumer(present, after) {
-                        ReadOptionConsumer::Refused(n) => ReadPacket::Refused(n),
+                        ReadOptionConsumer::Refused(n) => {
+                            return ReadPacket::Refused(n);
+                        }
                         ReadOptionConsumer::Consumer {
                             consumer,
                             used: more,
-                        } => read_picture_after(number, consumer, &after[more..]),
+                        } => {
+                            return read_picture_after(number, consumer, &after[more..]);
+                        }
                     }
                 }
             }
@@ -467,26 +544,39 @@ fn read_picture(s: &[u8]) -> ReadPacket
     }
 }
 
+// A full picture that was read.
+fn picture_packet(number: u32, display: Display) -> ReadPacket
+    ensures { λ r. ⌜ r ≡ ReadPacket.Packet (Packet.Picture (record { number = number; display = display })) ⌝ }
+{
+    ReadPacket::Packet(Packet::Picture(Picture { number, display }))
+}
+
 // A full picture after its consumer: both figures, the tracked ports, and the end.
 fn read_picture_after(number: u32, consumer: OptionAvailableConsumer, s: &[u8]) -> ReadPacket
     ensures { λ r. ⌜ r ≡ packetRead (pictureAfter number consumer (now (s .entry))) ⌝ }
 {
     match read_unconstrained(s) {
-        ReadUnconstrained::Refused(n) => ReadPacket::Refused(n),
+        ReadUnconstrained::Refused(n) => {
+            return ReadPacket::Refused(n);
+        }
         ReadUnconstrained::Unconstrained(unconstrained) => {
             let rest = &s[2..];
             match read_field(rest, 4) {
-                ReadByte::Refused(n) => ReadPacket::Refused(n),
+                ReadByte::Refused(n) => {
+                    return ReadPacket::Refused(n);
+                }
                 ReadByte::Byte(count) => match read_ports(&rest[1..], count) {
-                    ReadPorts::Refused(n) => ReadPacket::Refused(n),
-                    ReadPorts::Ports(providers) => ReadPacket::Packet(Packet::Picture(Picture {
-                        number,
-                        display: Display {
+                    ReadPorts::Refused(n) => {
+                        return ReadPacket::Refused(n);
+                    }
+                    ReadPorts::Ports(providers) => {
+                        let display = Display {
                             consumer,
                             unconstrained,
                             providers,
-                        },
-                    })),
+                        };
+                        return picture_packet(number, display);
+                    }
                 },
             }
         }
@@ -502,177 +592,17 @@ pub fn read(s: &[u8]) -> ReadPacket
     }
     let kind = s[0];
     match kind {
-        0 => ReadPacket::Refused(32),
-        1 => read_event(&s[1..]),
-        2 => read_picture(&s[1..]),
-        _ => ReadPacket::Refused(32),
-    }
-}
-
-// What writing a packet gives: 29 for a buffer under 64 bytes, or how many bytes were written.
-pub enum Written {
-    Refused(u8),
-    Length(usize),
-}
-
-// The writers of parts write from a place on and return the place after.
-
-// mV and mA.
-fn put_capability(out: &mut [u8], at: usize, c: PowerCapability) -> usize
-    requires { ⌜ at + 8 ≤ length (now out) ⌝ }
-    ensures { λ r. ⌜ (r ≡ at + length (capabilityBytes c)) × (now (out .exit) ≡ sets (now (out .entry)) at (capabilityBytes c)) × (r ≤ at + 6) ⌝ }
-{
-    let after = number::write(out, at, c.voltage_mv as u32);
-    number::write(out, after, c.current_ma as u32)
-}
-
-// Port, mV, mA, flags.
-fn put_contract(out: &mut [u8], at: usize, port: u8, c: PowerCapability, flags: u8) -> usize
-    requires { ⌜ at + 9 ≤ length (now out) ⌝ }
-    ensures { λ r. ⌜ (r ≡ at + length (contractBytes port c flags)) × (now (out .exit) ≡ sets (now (out .entry)) at (contractBytes port c flags)) × (r ≤ at + 8) ⌝ }
-{
-    out[at] = port;
-    let last = put_capability(out, at + 1, c);
-    out[last] = flags;
-    last + 1
-}
-
-// A notice.
-fn put_notice(out: &mut [u8], at: usize, notice: Event) -> usize
-    requires { ⌜ at + 10 ≤ length (now out) ⌝ }
-    ensures { λ r. ⌜ (r ≡ at + length (noticeBytes notice)) × (now (out .exit) ≡ sets (now (out .entry)) at (noticeBytes notice)) × (r ≤ at + 9) ⌝ }
-{
-    match notice {
-        Event::ConsumerDisconnected(port, flags) => {
-            out[at] = 1;
-            out[at + 1] = port;
-            out[at + 2] = flags.byte();
-            at + 3
+        0 => {
+            return ReadPacket::Refused(32);
         }
-        Event::ConsumerConnected(port, c) => {
-            let capability = c.capability;
-            let flags = c.flags;
-            out[at] = 2;
-            put_contract(out, at + 1, port, capability, flags.byte())
+        1 => {
+            return read_event(&s[1..]);
         }
-        Event::ProviderDisconnected(port) => {
-            out[at] = 3;
-            out[at + 1] = port;
-            at + 2
+        2 => {
+            return read_picture(&s[1..]);
         }
-        Event::ProviderConnected(port, c) => {
-            let capability = c.capability;
-            let flags = c.flags;
-            out[at] = 4;
-            put_contract(out, at + 1, port, capability, flags.byte())
-        }
-        Event::Unconstrained(figures) => {
-            out[at] = 5;
-            out[at + 1] = figures.unconstrained as u8;
-            out[at + 2] = figures.available;
-            at + 3
+        _ => {
+            return ReadPacket::Refused(32);
         }
     }
-}
-
-// The notices of an event, one after the other.
-fn put_notices(out: &mut [u8], at: usize, l: Notices) -> usize
-    requires { ⌜ at + 37 ≤ length (now out) ⌝ }
-    ensures { λ r. ⌜ (r ≡ at + length (allBytes (listed l))) × (now (out .exit) ≡ sets (now (out .entry)) at (allBytes (listed l))) × (r ≤ at + 36) ⌝ }
-{
-    match l {
-        Notices::Zero => at,
-        Notices::One(a) => put_notice(out, at, a),
-        Notices::Two(a, b) => {
-            let p = put_notice(out, at, a);
-            put_notice(out, p, b)
-        }
-        Notices::Three(a, b, d) => {
-            let p = put_notice(out, at, a);
-            let q = put_notice(out, p, b);
-            put_notice(out, q, d)
-        }
-        Notices::Four(a, b, d, e) => {
-            let p = put_notice(out, at, a);
-            let q = put_notice(out, p, b);
-            let r = put_notice(out, q, d);
-            put_notice(out, r, e)
-        }
-    }
-}
-
-// The consumer of a picture: a presence byte, and what follows it.
-fn put_consumer(out: &mut [u8], at: usize, c: OptionAvailableConsumer) -> usize
-    requires { ⌜ at + 10 ≤ length (now out) ⌝ }
-    ensures { λ r. ⌜ (r ≡ at + length (consumerBytes c)) × (now (out .exit) ≡ sets (now (out .entry)) at (consumerBytes c)) × (r ≤ at + 9) ⌝ }
-{
-    match c {
-        OptionAvailableConsumer::None => {
-            out[at] = 0;
-            at + 1
-        }
-        OptionAvailableConsumer::Some(a) => {
-            let port = a.psu;
-            let p = a.consumer_power_capability;
-            let capability = p.capability;
-            let flags = p.flags;
-            out[at] = 1;
-            put_contract(out, at + 1, port, capability, flags.byte())
-        }
-    }
-}
-
-// The tracked ports, rising.
-fn put_ports(out: &mut [u8], at: usize, mask: u16) -> usize
-    requires { ⌜ at + 16 ≤ length (now out) ⌝ }
-    ensures { λ r. ⌜ (r ≡ at + length (portsBytes mask)) × (now (out .exit) ≡ sets (now (out .entry)) at (portsBytes mask)) ⌝ }
-{
-    let mut next = at;
-    let mut left = mask;
-    let mut i: u8 = 0;
-    while i < 16 {
-        if left % 2 == 1 {
-            out[next] = i;
-            next += 1;
-        }
-        left = left / 2;
-        i += 1;
-    }
-    next
-}
-
-// Writes the packet of an event at the front of a buffer; the bytes past it stay.
-pub fn write_event(p: EventPacket, out: &mut [u8]) -> Written
-    ensures { λ r. ⌜ (r ≡ writtenOf (eventBytes p) (now (out .entry))) × (now (out .exit) ≡ stored (eventBytes p) (now (out .entry))) ⌝ }
-{
-    if out.len() < 64 {
-        return Written::Refused(29);
-    }
-    let notices = p.notices;
-    out[0] = 1;
-    let a = number::write(out, 1, p.number);
-    out[a] = p.answer;
-    let b = number::write(out, a + 1, p.orders as u32);
-    out[b] = notices.len();
-    Written::Length(put_notices(out, b + 1, notices))
-}
-
-// Writes a full picture at the front of a buffer; the bytes past it stay.
-pub fn write_picture(p: Picture, out: &mut [u8]) -> Written
-    ensures { λ r. ⌜ (r ≡ writtenOf (pictureBytes p) (now (out .entry))) × (now (out .exit) ≡ stored (pictureBytes p) (now (out .entry))) ⌝ }
-{
-    if out.len() < 64 {
-        return Written::Refused(29);
-    }
-    let display = p.display;
-    let consumer = display.consumer;
-    let unconstrained = display.unconstrained;
-    let providers = display.providers;
-    out[0] = 2;
-    let a = number::write(out, 1, p.number);
-    let b = put_consumer(out, a, consumer);
-    out[b] = unconstrained.unconstrained as u8;
-    out[b + 1] = unconstrained.available;
-    out[b + 2] = providers.len() as u8;
-    Written::Length(put_ports(out, b + 3, providers.mask))
 }

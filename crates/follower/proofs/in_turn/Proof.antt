@@ -45,8 +45,8 @@ returns c =
     ∙ (sym (fails (a .floor) (l .n) (l .d) h (8 - l .i) (omega (arith, c .before .before .before .before .before .before .before .before .loop-test .taken)) (omega (arith, c .before .before .before .if2 .left, c .before .before .before .before .before .if1 .left)) (c .before .if3 .taken))
     ∙ l .inv .1)
 
-apply-requires : tie.Need-apply-requires Inv-loop μ-loop
-apply-requires c κs = search needs
+applied-requires : tie.Need-applied-requires Inv-loop μ-loop
+applied-requires c κs = search needs
 
 no-packet-requires : tie.Need-no-packet-requires Inv-loop μ-loop
 no-packet-requires c κs = search needs
@@ -70,7 +70,7 @@ loop-again c =
     let h : Held = record { packets = l .packets } in
     let t = c .before .before .before .before .before .before .before .before .before .loop-test .taken in (
       search needs,
-      sym (goes (a .floor) (l .n) (l .d) h (l .i) t _ refl (omega (arith, c .before .before .before .before .if2 .left, c .before .before .before .before .before .before .if1 .left)) (c .before .before .if3 .left) _ (c .before .apply .ensures) _ (c .no-packet .ensures))
+      sym (goes (a .floor) (l .n) (l .d) h (l .i) t _ refl (omega (arith, c .before .before .before .before .if2 .left, c .before .before .before .before .before .before .if1 .left)) (c .before .before .if3 .left) _ (c .before .applied .ensures) _ (c .no-packet .ensures))
           ∙ l .inv .1,
     )
 
@@ -109,7 +109,7 @@ in-turn-spec =
     sub-if2
     lose-requires
     returns
-    apply-requires
+    applied-requires
     no-packet-requires
     mul-packets
     array-set-from-packets

@@ -6,8 +6,11 @@ use borrow.Author.Needs.{needs}
 use Rattle.follower.proofs.take_event.Statement.{statement}
 use Rattle.follower.proofs.take_event.Tie as tie
 
+show-requires : tie.Need-show-requires
+show-requires c κs = search needs
+
 returns : tie.Need-returns
-returns c = rw (le-leb _ _ (c .if1 .taken))
+returns c = rw (c .show .ensures, le-leb _ _ (c .before .if1 .taken))
 
 sub-if2 : tie.Need-sub-if2
 sub-if2 c = search needs
@@ -33,11 +36,14 @@ mul-if3 c = search needs
 element-copy-out-if3 : tie.Need-element-copy-out-if3
 element-copy-out-if3 c = search needs
 
+show-requires-2 : tie.Need-show-requires-2
+show-requires-2 c κs = search needs
+
 returns-3 : tie.Need-returns-3
 returns-3 c =
-    let a = c .before .before .before .before .args in
-    let q : a .e .number ≤ a .shown .number + 8 = omega (arith, c .before .before .if2 .left, c .before .before .before .if1 .left) in
-    rw (lt-leb _ _ (c .before .before .before .if1 .left), le-ltb _ _ q, eq-eqb _ _ (c .if3 .taken))
+    let a = c .before .before .before .before .before .args in
+    let q : a .e .number ≤ a .shown .number + 8 = omega (arith, c .before .before .before .if2 .left, c .before .before .before .before .if1 .left) in
+    rw (c .show2 .ensures, lt-leb _ _ (c .before .before .before .before .if1 .left), le-ltb _ _ q, eq-eqb _ _ (c .before .if3 .taken))
 
 mul-packets : tie.Need-mul-packets
 mul-packets c = search needs
@@ -58,6 +64,7 @@ pub take-event-spec : {M : Type 1} → statement M
 take-event-spec =
     tie.close
     (tie.spec
+    show-requires
     returns
     sub-if2
     greatest-requires
@@ -66,6 +73,7 @@ take-event-spec =
     cast-place
     mul-if3
     element-copy-out-if3
+    show-requires-2
     returns-3
     mul-packets
     array-set-from-packets

@@ -22,6 +22,13 @@ returns c =
 shared-slice-read-kind : tie.Need-shared-slice-read-kind
 shared-slice-read-kind c = search needs
 
+returns-2 : tie.Need-returns-2
+unfolding packet packetOf
+returns-2 c =
+    let s = now (c .before .before .before .before .args .s) in
+    let h : 0 < length s = omega arith in
+    rw (a-byte s h, c .match .keys1)
+
 sub-read-event : tie.Need-sub-read-event
 sub-read-event c = search needs
 
@@ -34,6 +41,14 @@ part-read-event-end c = search needs
 read-event-requires : tie.Need-read-event-requires
 read-event-requires c κs = search needs
 
+returns-3 : tie.Need-returns-3
+unfolding packet packetOf
+returns-3 c =
+    let s = now (c .before .before .before .before .before .before .args .s) in
+    let h : 0 < length s = omega arith in
+    let g = rw (rest-of s 1) at (c .read-event .ensures) in
+    rw (a-byte s h, c .before .before .match .keys2) g
+
 sub-read-picture : tie.Need-sub-read-picture
 sub-read-picture c = search needs
 
@@ -45,21 +60,6 @@ part-read-picture-end c = search needs
 
 read-picture-requires : tie.Need-read-picture-requires
 read-picture-requires c κs = search needs
-
-returns-2 : tie.Need-returns-2
-unfolding packet packetOf
-returns-2 c =
-    let s = now (c .before .before .before .before .args .s) in
-    let h : 0 < length s = omega arith in
-    rw (a-byte s h, c .match .keys1)
-
-returns-3 : tie.Need-returns-3
-unfolding packet packetOf
-returns-3 c =
-    let s = now (c .before .before .before .before .before .before .args .s) in
-    let h : 0 < length s = omega arith in
-    let g = rw (rest-of s 1) at (c .read-event .ensures) in
-    rw (a-byte s h, c .before .before .match .keys2) g
 
 returns-4 : tie.Need-returns-4
 unfolding packet packetOf
@@ -84,15 +84,15 @@ read-spec =
     (tie.spec
     returns
     shared-slice-read-kind
+    returns-2
     sub-read-event
     part-read-event-start
     part-read-event-end
     read-event-requires
+    returns-3
     sub-read-picture
     part-read-picture-start
     part-read-picture-end
     read-picture-requires
-    returns-2
-    returns-3
     returns-4
     returns-5)

@@ -17,6 +17,12 @@ read-requires c κs = search needs
 enum-known-n : tie.Need-enum-known-n
 enum-known-n c = search needs
 
+returns : tie.Need-returns
+unfolding capability
+returns c =
+    let s = now (c .before .before .before .before .before .args .s) in
+    (rw (number-refused 65535 s _ (sym (c .before .before .before .read .ensures) ∙ c .before .n .given .1)), omega arith)
+
 enum-known-value : tie.Need-enum-known-value
 enum-known-value c = search needs
 
@@ -47,50 +53,6 @@ read-requires-2 c κs = search needs
 enum-known-n-2 : tie.Need-enum-known-n-2
 enum-known-n-2 c = search needs
 
-enum-known-ma : tie.Need-enum-known-ma
-enum-known-ma c = search needs
-
-cast-t16 : tie.Need-cast-t16
-cast-t16 c =
-    let s = now (c .before .before .before .before .before .before .before .before .before .before .args .s) in
-    let v = c .before .before .before .before .before .before .value .given .0 .0 in
-    let u = c .before .before .before .before .before .before .value .given .0 .1 .0 in
-    let e = sym (c .before .before .before .before .before .before .before .before .read .ensures) ∙ c .before .before .before .before .before .before .value .given .1 in
-    let b = number-bounds 65535 s v u e in
-    omega arith
-
-cast-t17 : tie.Need-cast-t17
-cast-t17 c =
-    let s = now (c .before .before .before .before .before .before .before .before .before .before .args .s) in
-    let v = c .before .before .before .before .before .before .value .given .0 .0 in
-    let u = c .before .before .before .before .before .before .value .given .0 .1 .0 in
-    let e = sym (c .before .before .before .before .before .before .before .before .read .ensures) ∙ c .before .before .before .before .before .before .value .given .1 in
-    let b = number-bounds 65535 s v u e in
-    let m = c .before .ma .given .0 .0 in
-    let w = c .before .ma .given .0 .1 .0 in
-    let f = rw (rest-of s u) at (sym (c .before .before .before .read2 .ensures) ∙ c .before .ma .given .1) in
-    let d = number-bounds 65535 (drop u s) m w f in
-    omega arith
-
-add-t19 : tie.Need-add-t19
-add-t19 c =
-    let s = now (c .before .before .before .before .before .before .before .before .before .before .args .s) in
-    let v = c .before .before .before .before .before .before .value .given .0 .0 in
-    let u = c .before .before .before .before .before .before .value .given .0 .1 .0 in
-    let e = sym (c .before .before .before .before .before .before .before .before .read .ensures) ∙ c .before .before .before .before .before .before .value .given .1 in
-    let b = number-bounds 65535 s v u e in
-    let m = c .before .ma .given .0 .0 in
-    let w = c .before .ma .given .0 .1 .0 in
-    let f = rw (rest-of s u) at (sym (c .before .before .before .read2 .ensures) ∙ c .before .ma .given .1) in
-    let d = number-bounds 65535 (drop u s) m w f in
-    omega (arith, length-drop u s)
-
-returns : tie.Need-returns
-unfolding capability
-returns c =
-    let s = now (c .before .before .before .before .before .args .s) in
-    (rw (number-refused 65535 s _ (sym (c .before .before .before .read .ensures) ∙ c .before .n .given .1)), omega arith)
-
 returns-2 : tie.Need-returns-2
 unfolding capability
 returns-2 c =
@@ -101,6 +63,44 @@ returns-2 c =
     let b = number-bounds 65535 s v u e in
     let f = rw (rest-of s u) at (sym (c .before .before .before .read2 .ensures) ∙ c .before .n2 .given .1) in
     (rw (number-parsed 65535 s v u e, number-refused 65535 (drop u s) _ f), omega arith)
+
+enum-known-ma : tie.Need-enum-known-ma
+enum-known-ma c = search needs
+
+cast-t14 : tie.Need-cast-t14
+cast-t14 c =
+    let s = now (c .before .before .before .before .before .before .before .before .before .before .args .s) in
+    let v = c .before .before .before .before .before .before .value .given .0 .0 in
+    let u = c .before .before .before .before .before .before .value .given .0 .1 .0 in
+    let e = sym (c .before .before .before .before .before .before .before .before .read .ensures) ∙ c .before .before .before .before .before .before .value .given .1 in
+    let b = number-bounds 65535 s v u e in
+    omega arith
+
+cast-t15 : tie.Need-cast-t15
+cast-t15 c =
+    let s = now (c .before .before .before .before .before .before .before .before .before .before .args .s) in
+    let v = c .before .before .before .before .before .before .value .given .0 .0 in
+    let u = c .before .before .before .before .before .before .value .given .0 .1 .0 in
+    let e = sym (c .before .before .before .before .before .before .before .before .read .ensures) ∙ c .before .before .before .before .before .before .value .given .1 in
+    let b = number-bounds 65535 s v u e in
+    let m = c .before .ma .given .0 .0 in
+    let w = c .before .ma .given .0 .1 .0 in
+    let f = rw (rest-of s u) at (sym (c .before .before .before .read2 .ensures) ∙ c .before .ma .given .1) in
+    let d = number-bounds 65535 (drop u s) m w f in
+    omega arith
+
+add-t17 : tie.Need-add-t17
+add-t17 c =
+    let s = now (c .before .before .before .before .before .before .before .before .before .before .args .s) in
+    let v = c .before .before .before .before .before .before .value .given .0 .0 in
+    let u = c .before .before .before .before .before .before .value .given .0 .1 .0 in
+    let e = sym (c .before .before .before .before .before .before .before .before .read .ensures) ∙ c .before .before .before .before .before .before .value .given .1 in
+    let b = number-bounds 65535 s v u e in
+    let m = c .before .ma .given .0 .0 in
+    let w = c .before .ma .given .0 .1 .0 in
+    let f = rw (rest-of s u) at (sym (c .before .before .before .read2 .ensures) ∙ c .before .ma .given .1) in
+    let d = number-bounds 65535 (drop u s) m w f in
+    omega (arith, length-drop u s)
 
 returns-3 : tie.Need-returns-3
 unfolding capability
@@ -122,16 +122,16 @@ read-capability-spec =
     (tie.spec
     read-requires
     enum-known-n
+    returns
     enum-known-value
     sub-rest
     part-rest-start
     part-rest-end
     read-requires-2
     enum-known-n-2
-    enum-known-ma
-    cast-t16
-    cast-t17
-    add-t19
-    returns
     returns-2
+    enum-known-ma
+    cast-t14
+    cast-t15
+    add-t17
     returns-3)

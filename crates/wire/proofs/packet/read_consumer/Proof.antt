@@ -17,6 +17,13 @@ read-field-requires c κs = search needs
 enum-known-n : tie.Need-enum-known-n
 enum-known-n c = search needs
 
+returns : tie.Need-returns
+unfolding consumer
+returns c =
+    let s = now (c .before .before .before .before .before .args .s) in
+    let e1 = sym (rw (c .before .n .given .1) at (c .before .before .before .read-field .ensures .0)) in
+    (rw e1, omega arith)
+
 enum-known-port : tie.Need-enum-known-port
 enum-known-port c = search needs
 
@@ -35,6 +42,15 @@ read-capability-requires c κs = search needs
 enum-known-n-2 : tie.Need-enum-known-n-2
 enum-known-n-2 c = search needs
 
+returns-2 : tie.Need-returns-2
+unfolding consumer
+returns-2 c =
+    let s = now (c .before .before .before .before .before .before .before .before .before .before .args .s) in
+    let e1 = sym (rw (c .before .before .before .before .before .before .port .given .1) at (c .before .before .before .before .before .before .before .before .read-field .ensures .0)) in
+    let b1 = rw (c .before .before .before .before .before .before .port .given .1) at (c .before .before .before .before .before .before .before .before .read-field .ensures .1) in
+    let e2 = sym (rw (c .before .n2 .given .1, rest-of s 1) at (c .before .before .before .read-capability .ensures .0)) in
+    (rw (e1, e2), omega arith)
+
 enum-known-capability : tie.Need-enum-known-capability
 enum-known-capability c = search needs
 
@@ -47,9 +63,9 @@ part-last-start c = rw (c .before .capability .given .1) at (c .before .before .
 part-last-end : tie.Need-part-last-end
 part-last-end c = search needs
 
-returns : tie.Need-returns
+returns-3 : tie.Need-returns-3
 unfolding consumer
-returns c =
+returns-3 c =
     let s = now (c .before .before .before .before .before .before .before .before .before .before .before .before .args .s) in
     let e1 = sym (rw (c .before .before .before .before .before .before .before .before .port .given .1) at (c .before .before .before .before .before .before .before .before .before .before .read-field .ensures .0)) in
     let b1 = rw (c .before .before .before .before .before .before .before .before .port .given .1) at (c .before .before .before .before .before .before .before .before .before .before .read-field .ensures .1) in
@@ -67,28 +83,6 @@ from-byte-requires c κs = search needs
 enum-told : tie.Need-enum-told
 enum-told c = search needs
 
-enum-known-flags : tie.Need-enum-known-flags
-enum-known-flags c = search needs
-
-add-t27 : tie.Need-add-t27
-add-t27 c = search needs
-
-returns-2 : tie.Need-returns-2
-unfolding consumer
-returns-2 c =
-    let s = now (c .before .before .before .before .before .args .s) in
-    let e1 = sym (rw (c .before .n .given .1) at (c .before .before .before .read-field .ensures .0)) in
-    (rw e1, omega arith)
-
-returns-3 : tie.Need-returns-3
-unfolding consumer
-returns-3 c =
-    let s = now (c .before .before .before .before .before .before .before .before .before .before .args .s) in
-    let e1 = sym (rw (c .before .before .before .before .before .before .port .given .1) at (c .before .before .before .before .before .before .before .before .read-field .ensures .0)) in
-    let b1 = rw (c .before .before .before .before .before .before .port .given .1) at (c .before .before .before .before .before .before .before .before .read-field .ensures .1) in
-    let e2 = sym (rw (c .before .n2 .given .1, rest-of s 1) at (c .before .before .before .read-capability .ensures .0)) in
-    (rw (e1, e2), omega arith)
-
 returns-4 : tie.Need-returns-4
 unfolding consumer
 returns-4 c =
@@ -101,6 +95,12 @@ returns-4 c =
     let h : 0 < length (drop u (drop 1 s)) = omega arith in
     let f = rw (rest-of s 1, rest-of (drop 1 s) u) at (sym (c .before .before .from-byte .ensures) ∙ c .enum-told .given .1) in
     (rw (e1, e2, a-byte (drop u (drop 1 s)) h, f), omega arith)
+
+enum-known-flags : tie.Need-enum-known-flags
+enum-known-flags c = search needs
+
+add-t24 : tie.Need-add-t24
+add-t24 c = search needs
 
 returns-5 : tie.Need-returns-5
 unfolding consumer
@@ -121,23 +121,23 @@ read-consumer-spec =
     (tie.spec
     read-field-requires
     enum-known-n
+    returns
     enum-known-port
     sub-rest
     part-rest-start
     part-rest-end
     read-capability-requires
     enum-known-n-2
+    returns-2
     enum-known-capability
     sub-last
     part-last-start
     part-last-end
-    returns
+    returns-3
     shared-slice-read-from-byte
     from-byte-requires
     enum-told
-    enum-known-flags
-    add-t27
-    returns-2
-    returns-3
     returns-4
+    enum-known-flags
+    add-t24
     returns-5)

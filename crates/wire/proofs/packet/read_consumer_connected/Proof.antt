@@ -13,15 +13,15 @@ read-consumer-requires c κs = search needs
 enum-known-n : tie.Need-enum-known-n
 enum-known-n c = search needs
 
-enum-known-consumer : tie.Need-enum-known-consumer
-enum-known-consumer c = search needs
-
 returns : tie.Need-returns
 unfolding consumerConnected
 returns c =
     let s = now (c .before .before .before .before .before .args .s) in
     let e1 = sym (rw (c .before .n .given .1) at (c .before .before .before .read-consumer .ensures .0)) in
     (rw e1, omega arith)
+
+enum-known-consumer : tie.Need-enum-known-consumer
+enum-known-consumer c = search needs
 
 returns-2 : tie.Need-returns-2
 unfolding consumerConnected
@@ -33,4 +33,10 @@ returns-2 c =
 
 pub read-consumer-connected-spec : {M : Type 1} → statement M
 read-consumer-connected-spec =
-    tie.close (tie.spec read-consumer-requires enum-known-n enum-known-consumer returns returns-2)
+    tie.close
+    (tie.spec
+    read-consumer-requires
+    enum-known-n
+    returns
+    enum-known-consumer
+    returns-2)

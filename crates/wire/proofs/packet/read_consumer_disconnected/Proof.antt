@@ -18,6 +18,13 @@ read-field-requires c κs = search needs
 enum-known-n : tie.Need-enum-known-n
 enum-known-n c = search needs
 
+returns : tie.Need-returns
+unfolding consumerDisconnected
+returns c =
+    let s = now (c .before .before .before .before .before .args .s) in
+    let e1 = sym (rw (c .before .n .given .1) at (c .before .before .before .read-field .ensures .0)) in
+    (rw e1, omega arith)
+
 enum-known-port : tie.Need-enum-known-port
 enum-known-port c = search needs
 
@@ -30,9 +37,9 @@ part-last-start c = rw (c .before .port .given .1) at (c .before .before .before
 part-last-end : tie.Need-part-last-end
 part-last-end c = search needs
 
-returns : tie.Need-returns
+returns-2 : tie.Need-returns-2
 unfolding consumerDisconnected
-returns c =
+returns-2 c =
     let s = now (c .before .before .before .before .before .before .before .args .s) in
     let e1 = sym (rw (c .before .before .before .port .given .1) at (c .before .before .before .before .before .read-field .ensures .0)) in
     let b1 = rw (c .before .before .before .port .given .1) at (c .before .before .before .before .before .read-field .ensures .1) in
@@ -48,16 +55,6 @@ from-byte-requires c κs = search needs
 enum-told : tie.Need-enum-told
 enum-told c = search needs
 
-enum-known-reason : tie.Need-enum-known-reason
-enum-known-reason c = search needs
-
-returns-2 : tie.Need-returns-2
-unfolding consumerDisconnected
-returns-2 c =
-    let s = now (c .before .before .before .before .before .args .s) in
-    let e1 = sym (rw (c .before .n .given .1) at (c .before .before .before .read-field .ensures .0)) in
-    (rw e1, omega arith)
-
 returns-3 : tie.Need-returns-3
 unfolding consumerDisconnected
 returns-3 c =
@@ -68,6 +65,9 @@ returns-3 c =
     let h : 0 < length (drop 1 s) = omega arith in
     let f = rw (rest-of s 1) at (sym (c .before .before .from-byte .ensures) ∙ c .enum-told .given .1) in
     (rw (e1, a-byte (drop 1 s) h, f), omega arith)
+
+enum-known-reason : tie.Need-enum-known-reason
+enum-known-reason c = search needs
 
 returns-4 : tie.Need-returns-4
 unfolding consumerDisconnected
@@ -86,15 +86,15 @@ read-consumer-disconnected-spec =
     (tie.spec
     read-field-requires
     enum-known-n
+    returns
     enum-known-port
     sub-last
     part-last-start
     part-last-end
-    returns
+    returns-2
     shared-slice-read-from-byte
     from-byte-requires
     enum-told
-    enum-known-reason
-    returns-2
     returns-3
+    enum-known-reason
     returns-4)

@@ -17,12 +17,18 @@ read-requires c κs = search needs
 enum-known-n : tie.Need-enum-known-n
 enum-known-n c = search needs
 
-enum-known-number : tie.Need-enum-known-number
-enum-known-number c = search needs
-
 returns : tie.Need-returns
 unfolding event
 returns c =
+    let s = now (c .before .before .before .before .before .args .s) in
+    rw (number-refused 4294967295 s _ (sym (c .before .before .before .read .ensures) ∙ c .before .n .given .1))
+
+enum-known-number : tie.Need-enum-known-number
+enum-known-number c = search needs
+
+returns-2 : tie.Need-returns-2
+unfolding event
+returns-2 c =
     let s = now (c .before .before .before .before .before .before .args .s) in
     let v = c .before .before .number .given .0 .0 in
     let u = c .before .before .number .given .0 .1 .0 in
@@ -52,12 +58,6 @@ part-read-event-after-end c = search needs
 read-event-after-requires : tie.Need-read-event-after-requires
 read-event-after-requires c κs = search needs
 
-returns-2 : tie.Need-returns-2
-unfolding event
-returns-2 c =
-    let s = now (c .before .before .before .before .before .args .s) in
-    rw (number-refused 4294967295 s _ (sym (c .before .before .before .read .ensures) ∙ c .before .n .given .1))
-
 returns-3 : tie.Need-returns-3
 unfolding event
 returns-3 c =
@@ -75,11 +75,11 @@ read-event-spec =
     (tie.spec
     read-requires
     enum-known-n
-    enum-known-number
     returns
+    enum-known-number
+    returns-2
     sub-read-event-after
     part-read-event-after-start
     part-read-event-after-end
     read-event-after-requires
-    returns-2
     returns-3)

@@ -16,6 +16,13 @@ read-field-requires c κs = search needs
 enum-known-n : tie.Need-enum-known-n
 enum-known-n c = search needs
 
+returns : tie.Need-returns
+unfolding eventAfter
+returns c =
+    let s = now (c .before .before .before .before .before .args .s) in
+    let e = sym (rw (c .before .n .given .1) at (c .before .before .before .read-field .ensures .0)) in
+    rw e
+
 enum-known-answer : tie.Need-enum-known-answer
 enum-known-answer c = search needs
 
@@ -34,12 +41,20 @@ read-requires c κs = search needs
 enum-known-n-2 : tie.Need-enum-known-n-2
 enum-known-n-2 c = search needs
 
+returns-2 : tie.Need-returns-2
+unfolding eventAfter
+returns-2 c =
+    let s = now (c .before .before .before .before .before .before .before .before .before .before .args .s) in
+    let e = sym (rw (c .before .before .before .before .before .before .answer .given .1) at (c .before .before .before .before .before .before .before .before .read-field .ensures .0)) in
+    let f = rw (rest-of s 1) at (sym (c .before .before .before .read .ensures) ∙ c .before .n2 .given .1) in
+    rw (e, number-refused 4294967295 (drop 1 s) _ f)
+
 enum-known-orders : tie.Need-enum-known-orders
 enum-known-orders c = search needs
 
-returns : tie.Need-returns
+returns-3 : tie.Need-returns-3
 unfolding eventAfter
-returns c =
+returns-3 c =
     let s = now (c .before .before .before .before .before .before .before .before .before .before .before .args .s) in
     let e = sym (rw (c .before .before .before .before .before .before .before .answer .given .1) at (c .before .before .before .before .before .before .before .before .before .read-field .ensures .0)) in
     let v = c .before .before .orders .given .0 .0 in
@@ -72,21 +87,6 @@ part-read-event-notices-end c = search needs
 read-event-notices-requires : tie.Need-read-event-notices-requires
 read-event-notices-requires c κs = search needs
 
-returns-2 : tie.Need-returns-2
-unfolding eventAfter
-returns-2 c =
-    let s = now (c .before .before .before .before .before .args .s) in
-    let e = sym (rw (c .before .n .given .1) at (c .before .before .before .read-field .ensures .0)) in
-    rw e
-
-returns-3 : tie.Need-returns-3
-unfolding eventAfter
-returns-3 c =
-    let s = now (c .before .before .before .before .before .before .before .before .before .before .args .s) in
-    let e = sym (rw (c .before .before .before .before .before .before .answer .given .1) at (c .before .before .before .before .before .before .before .before .read-field .ensures .0)) in
-    let f = rw (rest-of s 1) at (sym (c .before .before .before .read .ensures) ∙ c .before .n2 .given .1) in
-    rw (e, number-refused 4294967295 (drop 1 s) _ f)
-
 returns-4 : tie.Need-returns-4
 unfolding eventAfter
 returns-4 c =
@@ -104,19 +104,19 @@ read-event-after-spec =
     (tie.spec
     read-field-requires
     enum-known-n
+    returns
     enum-known-answer
     sub-rest
     part-rest-start
     part-rest-end
     read-requires
     enum-known-n-2
+    returns-2
     enum-known-orders
-    returns
+    returns-3
     cast-read-event-notices
     sub-read-event-notices
     part-read-event-notices-start
     part-read-event-notices-end
     read-event-notices-requires
-    returns-2
-    returns-3
     returns-4)

@@ -5,6 +5,7 @@ use lib.ListN.{drop}
 use Rattle.wire.proofs.Reading.{rest-of, notices-ended, notices-failed}
 use Rattle.wire.specs.Parser.{number}
 use Rattle.wire.specs.Packet.{eventNotices, notices}
+use Rattle.display.specs.Notices.{empty}
 use Rattle.display.specs.declared.notices.Notices.{Notices}
 use Rattle.display.specs.declared.packet.Packet.{Packet}
 use borrow.Author.Needs.{needs}
@@ -16,6 +17,13 @@ read-field-requires c κs = search needs
 
 enum-known-n : tie.Need-enum-known-n
 enum-known-n c = search needs
+
+returns : tie.Need-returns
+unfolding eventNotices
+returns c =
+    let s = now (c .before .before .before .before .before .args .s) in
+    let e = sym (rw (c .before .n .given .1) at (c .before .before .before .read-field .ensures .0)) in
+    rw e
 
 enum-known-count : tie.Need-enum-known-count
 enum-known-count c = search needs
@@ -35,16 +43,6 @@ read-notices-requires c κs = search needs
 enum-known-n-2 : tie.Need-enum-known-n-2
 enum-known-n-2 c = search needs
 
-enum-known-notices : tie.Need-enum-known-notices
-enum-known-notices c = search needs
-
-returns : tie.Need-returns
-unfolding eventNotices
-returns c =
-    let s = now (c .before .before .before .before .before .args .s) in
-    let e = sym (rw (c .before .n .given .1) at (c .before .before .before .read-field .ensures .0)) in
-    rw e
-
 returns-2 : tie.Need-returns-2
 unfolding eventNotices
 returns-2 c =
@@ -53,16 +51,22 @@ returns-2 c =
     let k = c .before .before .before .before .before .before .count .given .0 .0 in
     let f = rw (rest-of s 1) at (sym (c .before .before .before .read-notices .ensures) ∙ c .before .n2 .given .1) in
     let x = c .before .before .before .before .before .before .before .before .before .before .args in
-    rw (e, notices-failed (notices k Notices.Zero (drop 1 s)) (λ (l : Notices). Packet.Event (record { number = x .number; answer = x .answer; orders = x .orders; notices = l })) _ f)
+    rw (e, notices-failed (notices k empty (drop 1 s)) (λ (l : Notices). Packet.Event (record { number = x .number; answer = x .answer; orders = x .orders; notices = l })) _ f)
+
+enum-known-notices : tie.Need-enum-known-notices
+enum-known-notices c = search needs
+
+event-packet-requires : tie.Need-event-packet-requires
+event-packet-requires c κs = search needs
 
 returns-3 : tie.Need-returns-3
 unfolding eventNotices
 returns-3 c =
-    let s = now (c .before .before .before .before .before .before .before .before .before .before .args .s) in
-    let e = sym (rw (c .before .before .before .before .before .before .count .given .1) at (c .before .before .before .before .before .before .before .before .read-field .ensures .0)) in
-    let k = c .before .before .before .before .before .before .count .given .0 .0 in
-    let f = rw (rest-of s 1) at (sym (c .before .before .before .read-notices .ensures) ∙ c .before .notices .given .1) in
-    rw (e, notices-ended (notices k Notices.Zero (drop 1 s)) _ f)
+    let s = now (c .before .before .before .before .before .before .before .before .before .before .before .args .s) in
+    let e = sym (rw (c .before .before .before .before .before .before .before .count .given .1) at (c .before .before .before .before .before .before .before .before .before .read-field .ensures .0)) in
+    let k = c .before .before .before .before .before .before .before .count .given .0 .0 in
+    let f = rw (rest-of s 1) at (sym (c .before .before .before .before .read-notices .ensures) ∙ c .before .before .notices .given .1) in
+    rw (c .event-packet .ensures, e, notices-ended (notices k empty (drop 1 s)) _ f)
 
 pub read-event-notices-spec : {M : Type 1} → statement M
 read-event-notices-spec =
@@ -70,13 +74,14 @@ read-event-notices-spec =
     (tie.spec
     read-field-requires
     enum-known-n
+    returns
     enum-known-count
     sub-read-notices
     part-read-notices-start
     part-read-notices-end
     read-notices-requires
     enum-known-n-2
-    enum-known-notices
-    returns
     returns-2
+    enum-known-notices
+    event-packet-requires
     returns-3)

@@ -35,17 +35,6 @@ read-notice-of-requires c κs = search needs
 enum-known-n : tie.Need-enum-known-n
 enum-known-n c = search needs
 
-enum-known-notice : tie.Need-enum-known-notice
-enum-known-notice c = search needs
-
-add-t15 : tie.Need-add-t15
-add-t15 c =
-    let s = now (c .before .before .before .before .before .before .before .before .args .s) in
-    let h : 0 < length s = omega arith in
-    let e = sym (rw (c .before .notice .given .1, rest-of s 1) at (c .before .before .before .read-notice-of .ensures .0)) in
-    let b = rw (c .before .notice .given .1, rest-of s 1) at (c .before .before .before .read-notice-of .ensures .1) in
-    omega (arith, length-drop 1 s)
-
 returns-2 : tie.Need-returns-2
 unfolding notice
 returns-2 c =
@@ -54,6 +43,17 @@ returns-2 c =
     let e = sym (rw (c .before .n .given .1, rest-of s 1) at (c .before .before .before .read-notice-of .ensures .0)) in
     let b = rw (c .before .n .given .1, rest-of s 1) at (c .before .before .before .read-notice-of .ensures .1) in
     (rw (a-byte s h, e), omega arith)
+
+enum-known-notice : tie.Need-enum-known-notice
+enum-known-notice c = search needs
+
+add-t14 : tie.Need-add-t14
+add-t14 c =
+    let s = now (c .before .before .before .before .before .before .before .before .args .s) in
+    let h : 0 < length s = omega arith in
+    let e = sym (rw (c .before .notice .given .1, rest-of s 1) at (c .before .before .before .read-notice-of .ensures .0)) in
+    let b = rw (c .before .notice .given .1, rest-of s 1) at (c .before .before .before .read-notice-of .ensures .1) in
+    omega (arith, length-drop 1 s)
 
 returns-3 : tie.Need-returns-3
 unfolding notice
@@ -76,7 +76,7 @@ read-notice-spec =
     part-rest-end
     read-notice-of-requires
     enum-known-n
-    enum-known-notice
-    add-t15
     returns-2
+    enum-known-notice
+    add-t14
     returns-3)

@@ -5,25 +5,28 @@ use native.Mathlib.Omega.{arith}
 use borrow.Author.Needs.{needs}
 use denote.Ref.{now}
 use lib.ListN.{drop}
-use Rattle.display.specs.declared.notices.Notices.{Notices}
+use Rattle.display.specs.Notices.{empty}
 use Rattle.wire.specs.Packet.{notice, notices}
 use Rattle.wire.specs.Read.{noticesRead}
-use Rattle.wire.proofs.Reading.{rest-of, empty, some-left}
+use Rattle.wire.proofs.Reading.{rest-of, none-left, some-left}
 use Rattle.wire.proofs.Repeated.{notices-more, notices-stop, notices-end}
 use Rattle.wire.proofs.packet.read_notices.Statement.{statement}
 use Rattle.wire.proofs.packet.read_notices.Tie as tie
 
 abbrev Inv-loop : tie.InvT-loop
-Inv-loop s count rest₀ found₀ i₀ rest found i = (i ≤ count) × (notices count Notices.Zero s ≡ notices (count - i) found rest)
+Inv-loop s count rest₀ found₀ i₀ rest found i = (i ≤ count) × (notices count empty s ≡ notices (count - i) found rest)
 
 abbrev μ-loop : tie.MeasureT-loop
 μ-loop s count rest₀ found₀ i₀ rest found i = count - i
 
+new-requires : tie.Need-new-requires Inv-loop μ-loop
+new-requires c κs = search needs
+
 loop-holds : tie.Need-loop-holds Inv-loop μ-loop
 loop-holds c =
-    let n = c .before .args .count in
+    let n = c .before .before .args .count in
     let e : n - 0 ≡ n = omega arith in
-    (omega arith, rw e)
+    (omega arith, rw (e, c .new .ensures))
 
 read-notice-requires : tie.Need-read-notice-requires Inv-loop μ-loop
 read-notice-requires c κs = search needs
@@ -33,7 +36,7 @@ enum-known-n c = search needs
 
 returns : tie.Need-returns Inv-loop μ-loop
 returns c =
-    let n = c .before .before .before .before .before .before .before .args .count in
+    let n = c .before .before .before .before .before .before .before .before .args .count in
     let l = c .before .before .before .before .before .loop in
     let r = now (l .rest) in
     let h : l .i < n = omega arith in
@@ -63,7 +66,7 @@ loop-less c = search needs
 
 loop-again : tie.Need-loop-again Inv-loop μ-loop
 loop-again c =
-    let n = c .before .before .before .before .before .before .before .before .before .args .count in
+    let n = c .before .before .before .before .before .before .before .before .before .before .args .count in
     let l = c .before .before .before .before .before .before .before .loop in
     let r = now (l .rest) in
     let u = c .before .before .before .notice .given .0 .1 .0 in
@@ -73,15 +76,15 @@ loop-again c =
 
 returns-2 : tie.Need-returns-2 Inv-loop μ-loop
 returns-2 c =
-    let n = c .before .before .before .before .args .count in
+    let n = c .before .before .before .before .before .args .count in
     let l = c .before .before .loop in
     let r = now (l .rest) in
     let e : l .i ≡ n = omega arith in
-    rw (notices-end n (l .i) (l .found) r e (l .inv .1), empty r (c .if1 .taken))
+    rw (notices-end n (l .i) (l .found) r e (l .inv .1), none-left r (c .if1 .taken))
 
 returns-3 : tie.Need-returns-3 Inv-loop μ-loop
 returns-3 c =
-    let n = c .before .before .before .before .args .count in
+    let n = c .before .before .before .before .before .args .count in
     let l = c .before .before .loop in
     let r = now (l .rest) in
     let e : l .i ≡ n = omega arith in
@@ -93,6 +96,7 @@ read-notices-spec =
     (tie.spec
     Inv-loop
     μ-loop
+    new-requires
     loop-holds
     read-notice-requires
     enum-known-n

@@ -15,6 +15,12 @@ read-requires c κs = search needs
 enum-known-n : tie.Need-enum-known-n
 enum-known-n c = search needs
 
+returns : tie.Need-returns
+unfolding picture
+returns c =
+    let s = now (c .before .before .before .before .before .args .s) in
+    rw (number-refused 4294967295 s _ (sym (c .before .before .before .read .ensures) ∙ c .before .n .given .1))
+
 enum-known-number : tie.Need-enum-known-number
 enum-known-number c = search needs
 
@@ -43,6 +49,16 @@ read-field-requires c κs = search needs
 enum-known-n-2 : tie.Need-enum-known-n-2
 enum-known-n-2 c = search needs
 
+returns-2 : tie.Need-returns-2
+unfolding picture
+returns-2 c =
+    let s = now (c .before .before .before .before .before .before .before .before .before .before .args .s) in
+    let v = c .before .before .before .before .before .before .number .given .0 .0 in
+    let u = c .before .before .before .before .before .before .number .given .0 .1 .0 in
+    let f = sym (c .before .before .before .before .before .before .before .before .read .ensures) ∙ c .before .before .before .before .before .before .number .given .1 in
+    let e = sym (rw (c .before .n2 .given .1, rest-of s u) at (c .before .before .before .read-field .ensures .0)) in
+    rw (number-parsed 4294967295 s v u f, e)
+
 enum-known-present : tie.Need-enum-known-present
 enum-known-present c = search needs
 
@@ -61,6 +77,17 @@ read-option-consumer-requires c κs = search needs
 enum-known-n-3 : tie.Need-enum-known-n-3
 enum-known-n-3 c = search needs
 
+returns-3 : tie.Need-returns-3
+unfolding picture
+returns-3 c =
+    let s = now (c .before .before .before .before .before .before .before .before .before .before .before .before .before .before .before .args .s) in
+    let v = c .before .before .before .before .before .before .before .before .before .before .before .number .given .0 .0 in
+    let u = c .before .before .before .before .before .before .before .before .before .before .before .number .given .0 .1 .0 in
+    let f = sym (c .before .before .before .before .before .before .before .before .before .before .before .before .before .read .ensures) ∙ c .before .before .before .before .before .before .before .before .before .before .before .number .given .1 in
+    let e = sym (rw (c .before .before .before .before .before .before .present .given .1, rest-of s u) at (c .before .before .before .before .before .before .before .before .read-field .ensures .0)) in
+    let g = sym (rw (c .before .n3 .given .1, rest-of s u, rest-of (drop u s) 1) at (c .before .before .before .read-option-consumer .ensures .0)) in
+    rw (number-parsed 4294967295 s v u f, e, g)
+
 enum-known-consumer : tie.Need-enum-known-consumer
 enum-known-consumer c = search needs
 
@@ -75,33 +102,6 @@ part-read-picture-after-end c = search needs
 
 read-picture-after-requires : tie.Need-read-picture-after-requires
 read-picture-after-requires c κs = search needs
-
-returns : tie.Need-returns
-unfolding picture
-returns c =
-    let s = now (c .before .before .before .before .before .args .s) in
-    rw (number-refused 4294967295 s _ (sym (c .before .before .before .read .ensures) ∙ c .before .n .given .1))
-
-returns-2 : tie.Need-returns-2
-unfolding picture
-returns-2 c =
-    let s = now (c .before .before .before .before .before .before .before .before .before .before .args .s) in
-    let v = c .before .before .before .before .before .before .number .given .0 .0 in
-    let u = c .before .before .before .before .before .before .number .given .0 .1 .0 in
-    let f = sym (c .before .before .before .before .before .before .before .before .read .ensures) ∙ c .before .before .before .before .before .before .number .given .1 in
-    let e = sym (rw (c .before .n2 .given .1, rest-of s u) at (c .before .before .before .read-field .ensures .0)) in
-    rw (number-parsed 4294967295 s v u f, e)
-
-returns-3 : tie.Need-returns-3
-unfolding picture
-returns-3 c =
-    let s = now (c .before .before .before .before .before .before .before .before .before .before .before .before .before .before .before .args .s) in
-    let v = c .before .before .before .before .before .before .before .before .before .before .before .number .given .0 .0 in
-    let u = c .before .before .before .before .before .before .before .before .before .before .before .number .given .0 .1 .0 in
-    let f = sym (c .before .before .before .before .before .before .before .before .before .before .before .before .before .read .ensures) ∙ c .before .before .before .before .before .before .before .before .before .before .before .number .given .1 in
-    let e = sym (rw (c .before .before .before .before .before .before .present .given .1, rest-of s u) at (c .before .before .before .before .before .before .before .before .read-field .ensures .0)) in
-    let g = sym (rw (c .before .n3 .given .1, rest-of s u, rest-of (drop u s) 1) at (c .before .before .before .read-option-consumer .ensures .0)) in
-    rw (number-parsed 4294967295 s v u f, e, g)
 
 returns-4 : tie.Need-returns-4
 unfolding picture
@@ -122,24 +122,24 @@ read-picture-spec =
     (tie.spec
     read-requires
     enum-known-n
+    returns
     enum-known-number
     sub-rest
     part-rest-start
     part-rest-end
     read-field-requires
     enum-known-n-2
+    returns-2
     enum-known-present
     sub-after
     part-after-start
     part-after-end
     read-option-consumer-requires
     enum-known-n-3
+    returns-3
     enum-known-consumer
     sub-read-picture-after
     part-read-picture-after-start
     part-read-picture-after-end
     read-picture-after-requires
-    returns
-    returns-2
-    returns-3
     returns-4)

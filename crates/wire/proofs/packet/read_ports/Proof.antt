@@ -9,7 +9,7 @@ use lib.ListN.{length-drop}
 use lib.Dec.{lit<}
 use Rattle.wire.specs.Packet.{ports}
 use Rattle.wire.specs.Read.{portsRead}
-use Rattle.wire.proofs.Reading.{empty, some-left}
+use Rattle.wire.proofs.Reading.{none-left, some-left}
 use Rattle.wire.proofs.Repeated.{ports-cut, ports-low, ports-high, ports-more, ports-end, added, added-lt}
 use Rattle.wire.proofs.packet.read_ports.Statement.{statement}
 use Rattle.wire.proofs.packet.read_ports.Tie as tie
@@ -91,7 +91,7 @@ returns-4 c =
     let l = c .before .before .loop in
     let e : l .i ≡ n = omega arith in
     let z : length (drop (l .i) s) ≡ 0 = omega (arith, length-drop (l .i) s) in
-    rw (ports-end s n (l .i) (l .low) (l .mask) e (l .inv .4), empty (drop (l .i) s) z)
+    rw (ports-end s n (l .i) (l .low) (l .mask) e (l .inv .4), none-left (drop (l .i) s) z)
 
 returns-5 : tie.Need-returns-5 Inv-loop μ-loop
 returns-5 c =

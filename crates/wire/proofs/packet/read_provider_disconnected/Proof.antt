@@ -13,15 +13,15 @@ read-field-requires c κs = search needs
 enum-known-n : tie.Need-enum-known-n
 enum-known-n c = search needs
 
-enum-known-port : tie.Need-enum-known-port
-enum-known-port c = search needs
-
 returns : tie.Need-returns
 unfolding providerDisconnected
 returns c =
     let s = now (c .before .before .before .before .before .args .s) in
     let e1 = sym (rw (c .before .n .given .1) at (c .before .before .before .read-field .ensures .0)) in
     (rw e1, omega arith)
+
+enum-known-port : tie.Need-enum-known-port
+enum-known-port c = search needs
 
 returns-2 : tie.Need-returns-2
 unfolding providerDisconnected
@@ -33,4 +33,10 @@ returns-2 c =
 
 pub read-provider-disconnected-spec : {M : Type 1} → statement M
 read-provider-disconnected-spec =
-    tie.close (tie.spec read-field-requires enum-known-n enum-known-port returns returns-2)
+    tie.close
+    (tie.spec
+    read-field-requires
+    enum-known-n
+    returns
+    enum-known-port
+    returns-2)

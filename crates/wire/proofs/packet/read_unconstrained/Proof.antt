@@ -16,6 +16,13 @@ read-field-requires c κs = search needs
 enum-known-n : tie.Need-enum-known-n
 enum-known-n c = search needs
 
+returns : tie.Need-returns
+unfolding unconstrained
+returns c =
+    let s = now (c .before .before .before .before .before .args .s) in
+    let e1 = sym (rw (c .before .n .given .1) at (c .before .before .before .read-field .ensures .0)) in
+    (rw e1, omega arith)
+
 enum-known-u : tie.Need-enum-known-u
 enum-known-u c = search needs
 
@@ -34,16 +41,6 @@ read-field-requires-2 c κs = search needs
 enum-known-n-2 : tie.Need-enum-known-n-2
 enum-known-n-2 c = search needs
 
-enum-known-available : tie.Need-enum-known-available
-enum-known-available c = search needs
-
-returns : tie.Need-returns
-unfolding unconstrained
-returns c =
-    let s = now (c .before .before .before .before .before .args .s) in
-    let e1 = sym (rw (c .before .n .given .1) at (c .before .before .before .read-field .ensures .0)) in
-    (rw e1, omega arith)
-
 returns-2 : tie.Need-returns-2
 unfolding unconstrained
 returns-2 c =
@@ -53,6 +50,9 @@ returns-2 c =
     let e2 = sym (rw (c .before .n2 .given .1, rest-of s 1) at (c .before .before .before .read-field2 .ensures .0)) in
     let b2 = rw (c .before .n2 .given .1, rest-of s 1) at (c .before .before .before .read-field2 .ensures .1) in
     (rw (e1, e2), omega arith)
+
+enum-known-available : tie.Need-enum-known-available
+enum-known-available c = search needs
 
 returns-3 : tie.Need-returns-3
 unfolding unconstrained
@@ -70,13 +70,13 @@ read-unconstrained-spec =
     (tie.spec
     read-field-requires
     enum-known-n
+    returns
     enum-known-u
     sub-rest
     part-rest-start
     part-rest-end
     read-field-requires-2
     enum-known-n-2
-    enum-known-available
-    returns
     returns-2
+    enum-known-available
     returns-3)

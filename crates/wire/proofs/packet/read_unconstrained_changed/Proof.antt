@@ -13,15 +13,15 @@ read-unconstrained-requires c κs = search needs
 enum-known-n : tie.Need-enum-known-n
 enum-known-n c = search needs
 
-enum-known-u : tie.Need-enum-known-u
-enum-known-u c = search needs
-
 returns : tie.Need-returns
 unfolding unconstrainedChanged
 returns c =
     let s = now (c .before .before .before .before .before .args .s) in
     let e1 = sym (rw (c .before .n .given .1) at (c .before .before .before .read-unconstrained .ensures .0)) in
     (rw e1, omega arith)
+
+enum-known-u : tie.Need-enum-known-u
+enum-known-u c = search needs
 
 returns-2 : tie.Need-returns-2
 unfolding unconstrainedChanged
@@ -33,4 +33,10 @@ returns-2 c =
 
 pub read-unconstrained-changed-spec : {M : Type 1} → statement M
 read-unconstrained-changed-spec =
-    tie.close (tie.spec read-unconstrained-requires enum-known-n enum-known-u returns returns-2)
+    tie.close
+    (tie.spec
+    read-unconstrained-requires
+    enum-known-n
+    returns
+    enum-known-u
+    returns-2)

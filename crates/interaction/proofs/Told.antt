@@ -1,0 +1,34 @@
+-- A notice told in its place is the last of the list, as long as no later one has been told: appending is associative.
+use mathlib.Core.Path.{_≡_, refl, ap}
+use mathlib.Core.List.{List, [], _∷_, _++_}
+use Prim.Native.Nat.{ℕ}
+use Rattle.power_policy_interface.specs.declared.capability.DisconnectFlags.{DisconnectFlags}
+use Rattle.power_policy_interface.specs.declared.service.UnconstrainedState.{UnconstrainedState}
+use Rattle.power_policy_interface.specs.declared.service.event.Event.{Event}
+use Rattle.display.specs.declared.AvailableConsumer.{AvailableConsumer}
+use Rattle.event.specs.Memory.{noNotices, tellProvider, tellDisconnected, tellConnected, tellUnconstrained}
+use Rattle.event.specs.declared.memory.Notices.{Notices}
+use Rattle.event.specs.declared.memory.ProviderNotice.{ProviderNotice}
+use Rattle.event.specs.declared.memory.UnconstrainedNotice.{UnconstrainedNotice}
+use Rattle.interaction.specs.Machine.{ofProvider, ofDisconnected, ofConnected, listed, NotConnected, NotUpdated}
+
+appended : (a l e : List Event) → a ++ (l ++ e) ≡ (a ++ l) ++ e
+appended [] l e = refl
+appended (x ∷ a) l e = ap (λ t. x ∷ t) (appended a l e)
+
+pub told-disconnected : (p : ℕ) (f : DisconnectFlags) (n : Notices) → NotUpdated n → listed (tellDisconnected p f n) ≡ listed n ++ (Event.ConsumerDisconnected p f ∷ [])
+told-disconnected p f n h =
+    rw (h .disconnected, h .later .connected, h .later .unconstrained)
+    (appended (ofProvider (n .provider)) [] (Event.ConsumerDisconnected p f ∷ []))
+
+pub told-connected : (c : AvailableConsumer) (n : Notices) → NotConnected n → listed (tellConnected c n) ≡ listed n ++ (Event.ConsumerConnected (c .psu) (c .«consumer_power_capability») ∷ [])
+told-connected c n h =
+    rw (h .connected, h .unconstrained, appended (ofDisconnected (n .disconnected)) [] (Event.ConsumerConnected (c .psu) (c .«consumer_power_capability») ∷ []))
+    (appended (ofProvider (n .provider)) (ofDisconnected (n .disconnected) ++ []) (Event.ConsumerConnected (c .psu) (c .«consumer_power_capability») ∷ []))
+
+pub told-unconstrained : (u : UnconstrainedState) (n : Notices) → n .unconstrained ≡ UnconstrainedNotice.None → listed (tellUnconstrained u n) ≡ listed n ++ (Event.Unconstrained u ∷ [])
+told-unconstrained u n h =
+    let e = Event.Unconstrained u ∷ [] in
+    let c = ofConnected (n .connected) in
+    let d = ofDisconnected (n .disconnected) in
+    rw (h, appended c [] e, appended d (c ++ []) e) (appended (ofProvider (n .provider)) (d ++ (c ++ [])) e)

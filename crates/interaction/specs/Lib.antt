@@ -1,0 +1,4 @@
+pub mod Action
+pub mod Interaction
+pub mod Machine
+pub mod Served

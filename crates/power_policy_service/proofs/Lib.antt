@@ -1,0 +1,2 @@
+pub mod Greatest
+pub mod Choice

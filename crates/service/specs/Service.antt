@@ -1,0 +1,150 @@
+-- The service between calls: what a start, an event and an answer bring about, and the service after it.
+use Prim.Native.Nat.{ℕ, suc}
+use mathlib.Core.Bool.{Bool, true, false, cond}
+use mathlib.Core.List.{List, [], _∷_}
+use lib.Dec.{ltb, eqb}
+use lib.ListN.{getD}
+use Rattle.power_policy_interface.specs.Capability.{disconnectFrom}
+use Rattle.power_policy_interface.specs.Psu.{answerFrom}
+use Rattle.power_policy_interface.specs.declared.capability.DisconnectFlags.{DisconnectFlags}
+use Rattle.power_policy_interface.specs.declared.capability.OptionDisconnectFlags.{OptionDisconnectFlags}
+use Rattle.power_policy_interface.specs.declared.psu.OptionResult.{OptionResult}
+use Rattle.power_policy_interface.specs.declared.psu.Result.{Result}
+use Rattle.power_policy_interface.specs.declared.psu.event.EventData.{EventData}
+use Rattle.power_policy_service.specs.declared.config.Config.{Config}
+use Rattle.power_policy_service.specs.declared.config.OptionConfig.{OptionConfig}
+use Rattle.event.specs.Memory.{freshState, noNotices}
+use Rattle.event.specs.Phase.{orderOf}
+use Rattle.event.specs.declared.memory.Memory.{Memory}
+use Rattle.event.specs.declared.memory.Records.{Records}
+use Rattle.event.specs.declared.memory.Registration.{Registration}
+use Rattle.event.specs.declared.phase.OptionOrder.{OptionOrder}
+use Rattle.event.specs.declared.phase.Order.{Order}
+use Rattle.event.specs.declared.phase.Phase.{Phase}
+use Rattle.event.specs.declared.phase.Turn.{Turn}
+use Rattle.update.specs.Update.{remember, closed}
+use Rattle.process.specs.Process.{noReason, processOf, answeredOf}
+use Rattle.service.specs.Refusals.{firstRefused, startRefusals, openRefusals, answerRefusals}
+use Rattle.service.specs.declared.Service.{Service}
+use Rattle.service.specs.declared.Started.{Started}
+use Rattle.service.specs.declared.Step.{Step}
+use Rattle.service.specs.declared.Stepped.{Stepped}
+
+-- g registered, event n closed last, k orders given
+abbrev pub serviceWith : Registration → ℕ → ℕ → Turn → Service
+serviceWith g n k t = record { registration = g; number = n; memory = t .memory; orders = k; phase = t .phase }
+
+abbrev pub stepped : Step → Service → Stepped
+stepped t s = record { step = t; service = s }
+
+-- a call that is turned back changes nothing
+abbrev pub refused : ℕ → Service → Stepped
+refused n s = stepped (Step.Refused n) s
+
+-- start
+
+-- no event yet
+abbrev pub freshTurn : Turn
+freshTurn = closed Result.Ok (remember freshState noNotices)
+
+abbrev pub freshService : Config → ℕ → ℕ → Service
+freshService c ports chargers = serviceWith (record { config = c; ports = ports; chargers = chargers }) 0 0 freshTurn
+
+abbrev pub startWith : OptionConfig → ℕ → ℕ → Started
+startWith OptionConfig.None ports chargers = Started.Refused 20
+startWith (OptionConfig.Some c) ports chargers = Started.Service (freshService c ports chargers)
+
+abbrev pub startOf : OptionConfig → ℕ → ℕ → Started
+startOf config ports chargers =
+    let n : ℕ = firstRefused (startRefusals config ports chargers) in
+    cond (eqb n 0) (startWith config ports chargers) (Started.Refused n)
+
+-- the end of every accepted call
+
+-- one more, up to a limit that is never met
+abbrev pub increment : ℕ → ℕ → ℕ
+increment limit n = cond (ltb n limit) (suc n) limit
+
+abbrev pub answerIn : Phase → Result
+answerIn (Phase.Closed a) = a
+answerIn (Phase.Leaving i p f) = Result.Ok
+answerIn (Phase.Switching l p f new) = Result.Ok
+answerIn (Phase.Connecting s new) = Result.Ok
+answerIn (Phase.Providing p c) = Result.Ok
+
+-- a close gives the event its number
+abbrev pub closedBy : Registration → ℕ → ℕ → Turn → Stepped
+closedBy g n k t = stepped (Step.Closed (answerIn (t .phase))) (serviceWith g (increment 4294967295 n) k t)
+
+-- an order counts
+abbrev pub orderedBy : Registration → ℕ → ℕ → Turn → Order → Stepped
+orderedBy g n k t o = stepped (Step.Order o) (serviceWith g n (increment 255 k) t)
+
+abbrev pub movedBy : OptionOrder → Registration → ℕ → ℕ → Turn → Stepped
+movedBy OptionOrder.None g n k t = closedBy g n k t
+movedBy (OptionOrder.Some o) g n k t = orderedBy g n k t o
+
+abbrev pub moved : Registration → ℕ → ℕ → Turn → Stepped
+moved g n k t = movedBy (orderOf (t .phase)) g n k t
+
+-- open
+
+abbrev pub flagsIn : OptionDisconnectFlags → DisconnectFlags
+flagsIn OptionDisconnectFlags.None = noReason
+flagsIn (OptionDisconnectFlags.Some f) = f
+
+-- 0 none, 1 Detached, then as written, to 6 Reset; above 6 has been refused
+abbrev pub flagsOf : ℕ → DisconnectFlags
+flagsOf detail = flagsIn (disconnectFrom detail)
+
+-- 0 to 4 as psu/event.rs writes them
+abbrev pub events : ℕ → List EventData
+events detail =
+    EventData.Attached
+    ∷ EventData.UpdatedConsumerCapability
+    ∷ EventData.RequestedProviderCapability
+    ∷ EventData.Disconnected (flagsOf detail)
+    ∷ EventData.Detached
+    ∷ []
+
+-- above has been refused
+abbrev pub eventOf : ℕ → ℕ → EventData
+eventOf kind detail = getD (events detail) kind EventData.Attached
+
+abbrev pub clearedOf : Service → Memory
+clearedOf s = remember (s .memory .state) noNotices
+
+-- the event of a port starts with no notices and no orders
+abbrev pub openedOf : Service → ℕ → EventData → Records → Stepped
+openedOf s port e r = moved (s .registration) (s .number) 0 (processOf (s .registration) (clearedOf s) port e r)
+
+-- a charger's event (kind 5) changes nothing and has no number
+abbrev pub openOf : Service → ℕ → ℕ → ℕ → Records → Stepped
+openOf s kind device detail r =
+    let n : ℕ = firstRefused (openRefusals s kind device detail) in
+    cond (eqb n 0) (cond (eqb kind 5) (stepped (Step.Closed Result.Ok) s) (openedOf s device (eventOf kind detail) r))
+    (refused n s)
+
+-- answer
+
+-- the open order; none has been refused
+abbrev pub orderIn : OptionOrder → Order
+orderIn OptionOrder.None = Order.Wait
+orderIn (OptionOrder.Some o) = o
+
+abbrev pub resultIn : OptionResult → Result
+resultIn OptionResult.None = Result.Ok
+resultIn (OptionResult.Some a) = a
+
+-- 0 done, 1 to 10 the error; above 10 has been refused
+abbrev pub resultOf : ℕ → Result
+resultOf a = resultIn (answerFrom a)
+
+abbrev pub answeredBy : Service → Order → Result → Records → Stepped
+answeredBy s o a r =
+    moved (s .registration) (s .number) (s .orders) (answeredOf (s .registration) (s .phase) o (s .memory) a r)
+
+abbrev pub answerOf : Service → ℕ → Records → Stepped
+answerOf s a r =
+    let n : ℕ = firstRefused (answerRefusals s a) in
+    cond (eqb n 0) (answeredBy s (orderIn (orderOf (s .phase))) (resultOf a) r) (refused n s)
