@@ -10,6 +10,7 @@ use lib.Dec.{ltb, eqb}
 use lib.ListN.{length}
 use borrow.Author.Tests.{lt-ltb, ltb-true, ltb-false, eqb-true, eqb-false}
 use Rattle.power_policy_interface.specs.declared.psu.Result.{Result}
+use Rattle.power_policy_interface.specs.declared.service.event.Event.{Event}
 use Rattle.event.specs.Memory.{noNotices}
 use Rattle.event.specs.Phase.{orderOf, outcomeOf, switchOrder, connectOrder}
 use Rattle.event.specs.declared.memory.Memory.{Memory}
@@ -32,6 +33,7 @@ use Rattle.interaction.specs.Machine.{heldOf, rest, standsAt, standsFor,
 use Rattle.interaction.specs.Served.{Answers, serviceAfter, noAnswer, fedBy, ordersBy, AtMost, brings, numbered, Stands}
 use Rattle.interaction.proofs.Bound.{event-bound, orders-bound}
 use Rattle.interaction.proofs.Follows.{opened, leaving-answered, switching-answered, connecting-answered, providing-answered}
+use Rattle.interaction.proofs.Told.{at-most-four}
 use Rattle.interaction.proofs.Kept.{opened-fits, answered-fits}
 
 -- the service at a phase, when the event had given so many orders before the open one
@@ -225,7 +227,7 @@ opens : (s : Service) (kind device detail : ℕ) (r : Records) → Opens s kind 
     openOf s kind device detail r ≡ openedOf s device (eventOf kind detail) r
 opens s kind device detail r h = rw (h .accepted, h .from-port)
 
-abbrev eventAt : Service → ℕ → ℕ → ℕ → Records → Interaction
+abbrev pub eventAt : Service → ℕ → ℕ → ℕ → Records → Interaction
 eventAt s kind device detail r = event (s .registration) device (eventOf kind detail) (s .memory .state) r
 
 -- the machine follows the event, for every list of answers: the same order asked, or the same close with answer, notices and state held;
@@ -267,3 +269,23 @@ open-brings s kind device detail r o =
     rw (opens s kind device detail r o)
     (moved-brings (s .registration) (s .number) 0 (t .phase) (t .memory)
     ∙ ap brings (opened (s .registration) (s .memory .state) device (eventOf kind detail) r))
+
+-- an event gives at most four notices
+
+abbrev noticesIn : Interaction → List Event
+noticesIn (done a h) = h .notices
+noticesIn (ask o k) = []
+
+few : (g : Registration) (p : Phase) (m : Memory) → length (noticesIn (standsAt g p m)) ≤ 4
+few g (Phase.Closed a) m = at-most-four (m .notices)
+few g (Phase.Leaving i p f) m = omega arith
+few g (Phase.Switching l old f new) m = omega arith
+few g (Phase.Connecting s new) m = omega arith
+few g (Phase.Providing p c) m = omega arith
+
+pub notices-bound : (s : Service) (kind device detail : ℕ) (r : Records) (l : Answers) (a : Result) (h : Held) → Registered s → Opens s kind device detail →
+    fedBy (eventAt s kind device detail r) l ≡ done a h → length (h .notices) ≤ 4
+notices-bound s kind device detail r l a h reg o e =
+    let at = serviceAfter (openOf s kind device detail r .service) l in
+    let left : standsAt (s .registration) (at .phase) (at .memory) ≡ done a h = follows s kind device detail r l reg o .left ∙ e in
+    subst (λ i. length (noticesIn i) ≤ 4) left (few (s .registration) (at .phase) (at .memory))
