@@ -30,7 +30,7 @@ use Rattle.service.specs.declared.Stepped.{Stepped}
 use Rattle.interaction.specs.Action.{Held, Interaction, done, ask}
 use Rattle.interaction.specs.Interaction.{close, event}
 use Rattle.interaction.specs.Machine.{heldOf, rest, standsAt, standsFor, Fits}
-use Rattle.interaction.specs.Served.{Answers, serviceAfter, noAnswer, fedBy, ordersBy, AtMost, brings, numbered, Stands}
+use Rattle.interaction.specs.Served.{Answers, serviceAfter, noAnswer, fedBy, ordersBy, AtMost, brings, numbered, Stands, Opens, Registered, eventAt}
 use Rattle.interaction.proofs.Bound.{event-bound, orders-bound}
 use Rattle.interaction.proofs.Follows.{opened, leaving-answered, switching-answered, connecting-answered, providing-answered}
 use Rattle.interaction.proofs.Told.{at-most-four}
@@ -213,22 +213,9 @@ below number true k le e = absurd (true-false k)
     true-false h = eqb-false 0 0 h refl
 below number false k le e = omega (arith, eqb-false number 4294967295 e)
 
--- accepted, and not the charger's
-pub record Opens (s : Service) (kind device detail : ℕ) : Type 0 where
-  pub accepted : firstRefused (openRefusals s kind device detail) ≡ 0
-  pub from-port : eqb kind 5 ≡ false
-
--- what a start registers, and a number of 32 bits
-pub record Registered (s : Service) : Type 0 where
-  pub chargers : s .registration .chargers ≤ 8
-  pub number : s .number ≤ 4294967295
-
 opens : (s : Service) (kind device detail : ℕ) (r : Records) → Opens s kind device detail →
     openOf s kind device detail r ≡ openedOf s device (eventOf kind detail) r
 opens s kind device detail r h = rw (h .accepted, h .from-port)
-
-abbrev pub eventAt : Service → ℕ → ℕ → ℕ → Records → Interaction
-eventAt s kind device detail r = event (s .registration) device (eventOf kind detail) (s .memory .state) r
 
 -- the machine follows the event, for every list of answers: the same order asked, or the same close with answer, notices and state held;
 -- the orders counted are those of the event's list, and the number is the next when it has closed

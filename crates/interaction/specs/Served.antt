@@ -1,19 +1,20 @@
 -- An event at the service: fed with the answers that document 01 does not turn back, and what the service then is to show.
-use Prim.Native.Nat.{ℕ, zero, suc}
+use Prim.Native.Nat.{ℕ, zero, suc, _≤_}
 use mathlib.Core.Bool.{Bool, true, false, cond}
 use mathlib.Core.List.{List, [], _∷_}
 use mathlib.Core.Path.{_≡_}
-use lib.ListN.{length}
+use lib.Dec.{eqb}
 use Rattle.power_policy_interface.specs.declared.psu.Result.{Result}
 use Rattle.event.specs.declared.memory.Records.{Records}
 use Rattle.event.specs.declared.memory.Registration.{Registration}
 use Rattle.event.specs.declared.phase.OptionOrder.{OptionOrder}
 use Rattle.event.specs.declared.phase.Order.{Order}
-use Rattle.service.specs.Refusals.{unknownAnswer}
-use Rattle.service.specs.Service.{resultOf, answerOf}
+use Rattle.service.specs.Refusals.{firstRefused, openRefusals, unknownAnswer}
+use Rattle.service.specs.Service.{eventOf, resultOf, answerOf}
 use Rattle.service.specs.declared.Service.{Service}
 use Rattle.service.specs.declared.Step.{Step}
 use Rattle.interaction.specs.Action.{Interaction, done, ask}
+use Rattle.interaction.specs.Interaction.{event}
 use Rattle.interaction.specs.Machine.{standsAt}
 
 -- calls of answer: the number given, and the present records
@@ -64,3 +65,19 @@ pub record Stands (s : Service) (g : Registration) (number given : ℕ) (i : Int
   pub numbered : s .number ≡ number
   pub counted : s .orders ≡ given
   pub left : standsAt g (s .phase) (s .memory) ≡ i
+
+-- an event is opened
+
+-- accepted, and not the charger's
+pub record Opens (s : Service) (kind device detail : ℕ) : Type 0 where
+  pub accepted : firstRefused (openRefusals s kind device detail) ≡ 0
+  pub from-port : eqb kind 5 ≡ false
+
+-- what a start registers, and a number of 32 bits
+pub record Registered (s : Service) : Type 0 where
+  pub chargers : s .registration .chargers ≤ 8
+  pub number : s .number ≤ 4294967295
+
+-- the event that is opened
+abbrev pub eventAt : Service → ℕ → ℕ → ℕ → Records → Interaction
+eventAt s kind device detail r = event (s .registration) device (eventOf kind detail) (s .memory .state) r
