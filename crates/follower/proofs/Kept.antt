@@ -23,7 +23,7 @@ use Rattle.follower.specs.Follower.{lost, showing, at, fresh, inTurn, se
 use Rattle.follower.specs.WellFormed.{largest, InPlace, Within, WellFormedAt, WellFormed, Readable}
 use Rattle.follower.proofs.Laws.{greatest-le}
 
-mod8 : (m : ℕ) → m % 8 < 8
+pub mod8 : (m : ℕ) → m % 8 < 8
 mod8 m = mod-lt m {m = 8} (lit< tt)
 
 pub none-at : (k i : ℕ) → getD (replicate k none) i none ≡ none
@@ -31,7 +31,7 @@ none-at zero i = refl
 none-at (suc k) zero = refl
 none-at (suc k) (suc i) = none-at k i
 
-nothing-within : (lo hi : ℕ) → Within lo hi nothing
+pub nothing-within : (lo hi : ℕ) → Within lo hi nothing
 nothing-within lo hi = (refl, λ i l. inl (none-at 8 i))
 
 -- wider bounds
@@ -73,7 +73,7 @@ stop-within n hi h z w =
             omega (arith, a)
 
 -- the next event is dropped: what is left comes after it
-go-within : (n hi : ℕ) (h : Held) → Within (n + 1) hi h → Within (n + 2) hi (dropped h (n + 1))
+pub go-within : (n hi : ℕ) (h : Held) → Within (n + 1) hi h → Within (n + 2) hi (dropped h (n + 1))
 go-within n hi h w =
     put-within (n + 2) hi h ((n + 1) % 8) none (mod8 (n + 1)) (w .0) (inl refl)
     (λ i l t. ⊎-elim (λ e. inl e) (λ q. inr (later i t (q .3) (q .0), q .1, q .2, q .3, q .4)) (w .1 i l))
@@ -158,7 +158,7 @@ seen m zero h e l = (e, λ i li. inr (refl, λ y. absurd (omega arith)))
 seen m (suc k) h e l =
     seen-next m k h (above m k h) (omega arith) (seen m k h e (omega arith)) (leb (packetAt (above m k h) k .number) m) refl
 
-picture-within : (n m : ℕ) (h : Held) → n < m → Within (n + 2) (n + 8) h → Within (m + 1) (m + 8) (above m 8 h)
+pub picture-within : (n m : ℕ) (h : Held) → n < m → Within (n + 2) (n + 8) h → Within (m + 1) (m + 8) (above m 8 h)
 picture-within n m h l w =
     let s = seen m 8 h (w .0) (omega arith) in
     (s .0, λ i li. ⊎-elim (λ e. inl e) (λ q. ⊎-elim (λ e. inl (q .0 ∙ e)) (λ z. inr (stays i li q z)) (w .1 i li)) (s .1 i li))
@@ -173,7 +173,7 @@ picture-within n m h l w =
         let a : packetAt (above m 8 h) i .number ≡ packetAt h i .number = ap (λ (p : EventPacket). p .number) (q .0) in
         (omega (arith, q .1 li), omega (arith, z .1), omega (arith, z .2), ap (λ (x : ℕ). x % 8) a ∙ z .3, ap (λ (p : EventPacket). padded (p .notices)) (q .0) ∙ z .4)
 
-event-within : (n : ℕ) (h : Held) (e : EventPacket) → n < e .number → e .number ≤ n + 8
+pub event-within : (n : ℕ) (h : Held) (e : EventPacket) → n < e .number → e .number ≤ n + 8
     → (e .number ≤ largest) × (padded (e .notices) ≡ true) → Within (n + 2) (n + 8) h → Within (n + 1) (n + 8) (placed h e)
 event-within n h e a b c w =
     put-within (n + 1) (n + 8) h (e .number % 8) e (mod8 (e .number)) (w .0) (inr (omega arith, b, c .0, refl, c .1))

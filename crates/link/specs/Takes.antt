@@ -1,0 +1,56 @@
+-- Lists of takes: each is handed the bytes of a packet or picture that was written, in any order and however often, or bytes that 30 to 33
+-- turn back.
+use Prim.Native.Nat.{ℕ, _≤_, _<_, _+_}
+use mathlib.Core.Bool.{true}
+use mathlib.Core.List.{List, [], _∷_, _++_}
+use mathlib.Core.Logic.{_⊎_}
+use mathlib.Core.Path.{_≡_}
+use Rattle.display.specs.declared.Display.{Display}
+use Rattle.display.specs.declared.packet.EventPacket.{EventPacket}
+use Rattle.display.specs.declared.packet.Packet.{Packet}
+use Rattle.display.specs.declared.packet.Picture.{Picture}
+use Rattle.wire.specs.Bytes.{packetBytes}
+use Rattle.wire.specs.Read.{readPacket}
+use Rattle.wire.specs.declared.packet.ReadPacket.{ReadPacket}
+use Rattle.follower.specs.Follower.{taken}
+use Rattle.follower.specs.declared.Follower.{Follower}
+use Rattle.follower.specs.declared.Shown.{Shown}
+use Rattle.link.specs.Source.{Source}
+
+-- a take: bytes that are turned back change nothing
+abbrev pub takenRead : Follower → ReadPacket → Follower
+takenRead f (ReadPacket.Refused n) = f
+takenRead f (ReadPacket.Packet p) = taken f p
+
+abbrev pub take : Follower → List ℕ → Follower
+take f b = takenRead f (readPacket b)
+
+abbrev pub takes : Follower → List (List ℕ) → Follower
+takes f [] = f
+takes f (b ∷ l) = takes (take f b) l
+
+-- what the link hands over
+pub data Handed (source : Source) (b : List ℕ) : Type 0 where
+  copy : (p : Packet) → source .Written p → b ≡ packetBytes p → Handed source b
+  turned-back : (n : ℕ) → readPacket b ≡ ReadPacket.Refused n → Handed source b
+
+abbrev pub AllHanded : Source → List (List ℕ) → Type 0
+AllHanded source [] = Unit {0}
+AllHanded source (b ∷ l) = Handed source b × AllHanded source l
+
+-- among the takes there is this packet
+abbrev pub Met : Packet → List (List ℕ) → Type 0
+Met p [] = ⊥
+Met p (b ∷ l) = (readPacket b ≡ ReadPacket.Packet p) ⊎ Met p l
+
+abbrev pub numberIn : Packet → ℕ
+numberIn (Packet.Event e) = e .number
+numberIn (Packet.Picture p) = p .number
+
+-- what is shown
+
+abbrev pub Lost : Follower → Type 0
+Lost f = (floor : ℕ) × (f .shown ≡ Shown.Lost floor)
+
+abbrev pub Shows : Follower → ℕ → Display → Type 0
+Shows f n d = f .shown ≡ Shown.Picture (record { number = n; display = d })
