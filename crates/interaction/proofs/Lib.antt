@@ -4,3 +4,4 @@ pub mod Follows
 pub mod Kept
 pub mod Bound
 pub mod Serves
+pub mod Carries
