@@ -49,10 +49,11 @@ waiting (OptionOrder.Some o) = true
 abbrev pub isOpen : Phase → Bool
 isOpen p = waiting (orderOf p)
 
--- PSU event after number 4,294,967,295
+-- PSU event after number 4,294,967,295; a charger's has no number
 abbrev pub numbersUsed : ℕ → ℕ → Bool
 numbersUsed kind number = not (eqb kind 5) && eqb number 4294967295
 
+-- 25: an event is open
 abbrev pub openConditions : ℕ → ℕ → Bool → ℕ → ℕ → ℕ → ℕ → List (Bool × ℕ)
 openConditions ports chargers waits number kind device detail =
     (notRegistered ports chargers kind device, 23)

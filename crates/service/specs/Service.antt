@@ -50,6 +50,7 @@ freshTurn = closed Result.Ok (remember freshState noNotices)
 abbrev pub freshService : Config → ℕ → ℕ → Service
 freshService c ports chargers = serviceWith (record { config = c; ports = ports; chargers = chargers }) 0 0 freshTurn
 
+-- no configuration has been refused
 abbrev pub startWith : OptionConfig → ℕ → ℕ → Started
 startWith OptionConfig.None ports chargers = Started.Refused 20
 startWith (OptionConfig.Some c) ports chargers = Started.Service (freshService c ports chargers)
@@ -61,10 +62,11 @@ startOf config ports chargers =
 
 -- the end of every accepted call
 
--- one more, up to a limit that is never met
+-- one more, at most the limit: no event gives 255 orders, and after the last number every event is refused
 abbrev pub increment : ℕ → ℕ → ℕ
 increment limit n = cond (ltb n limit) (suc n) limit
 
+-- how a phase with no order closed
 abbrev pub answerIn : Phase → Result
 answerIn (Phase.Closed a) = a
 answerIn (Phase.Leaving i p f) = Result.Ok
@@ -84,6 +86,7 @@ abbrev pub movedBy : OptionOrder → Registration → ℕ → ℕ → Turn → S
 movedBy OptionOrder.None g n k t = closedBy g n k t
 movedBy (OptionOrder.Some o) g n k t = orderedBy g n k t o
 
+-- where an accepted call leaves the service: at an order or closed
 abbrev pub moved : Registration → ℕ → ℕ → Turn → Stepped
 moved g n k t = movedBy (orderOf (t .phase)) g n k t
 
