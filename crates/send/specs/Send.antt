@@ -1,0 +1,84 @@
+-- The packet of the event closed last, and the full picture of what is held; and what turns them back.
+use Prim.Native.Nat.{ℕ}
+use mathlib.Core.Bool.{Bool, cond}
+use mathlib.Core.List.{List, [], _∷_}
+use lib.Dec.{eqb}
+use Rattle.power_policy_interface.specs.Psu.{answerByte}
+use Rattle.power_policy_interface.specs.declared.service.event.Event.{Event}
+use Rattle.display.specs.Notices.{empty, pushed}
+use Rattle.display.specs.declared.Display.{Display}
+use Rattle.display.specs.declared.OptionAvailableConsumer.{OptionAvailableConsumer}
+use Rattle.display.specs.declared.notices.Notices as display
+use Rattle.display.specs.declared.packet.EventPacket.{EventPacket}
+use Rattle.display.specs.declared.packet.Picture.{Picture}
+use Rattle.event.specs.declared.memory.DisconnectedNotice.{DisconnectedNotice}
+use Rattle.event.specs.declared.memory.InternalState.{InternalState}
+use Rattle.event.specs.declared.memory.Notices.{Notices}
+use Rattle.event.specs.declared.memory.ProviderNotice.{ProviderNotice}
+use Rattle.event.specs.declared.memory.UnconstrainedNotice.{UnconstrainedNotice}
+use Rattle.event.specs.declared.phase.Phase.{Phase}
+use Rattle.service.specs.Refusals.{firstRefused, isOpen}
+use Rattle.service.specs.declared.Service.{Service}
+use Rattle.send.specs.declared.SentPacket.{SentPacket}
+use Rattle.send.specs.declared.SentPicture.{SentPicture}
+
+-- consumer, unconstrained figures and tracked providers; the power state is the service's own
+abbrev pub displayOf : InternalState → Display
+displayOf s =
+    record { consumer = s .«current_consumer_state»; unconstrained = s .unconstrained; providers = s .«connected_providers» }
+
+-- the notices in their order
+
+abbrev pub pushProvider : display.Notices → ProviderNotice → display.Notices
+pushProvider l ProviderNotice.None = l
+pushProvider l (ProviderNotice.Disconnected p) = pushed l (Event.ProviderDisconnected p)
+pushProvider l (ProviderNotice.Connected p c) = pushed l (Event.ProviderConnected p c)
+
+abbrev pub pushDisconnected : display.Notices → DisconnectedNotice → display.Notices
+pushDisconnected l DisconnectedNotice.None = l
+pushDisconnected l (DisconnectedNotice.Some p f) = pushed l (Event.ConsumerDisconnected p f)
+
+abbrev pub pushConnected : display.Notices → OptionAvailableConsumer → display.Notices
+pushConnected l OptionAvailableConsumer.None = l
+pushConnected l (OptionAvailableConsumer.Some c) = pushed l (Event.ConsumerConnected (c .psu) (c .«consumer_power_capability»))
+
+abbrev pub pushUnconstrained : display.Notices → UnconstrainedNotice → display.Notices
+pushUnconstrained l UnconstrainedNotice.None = l
+pushUnconstrained l (UnconstrainedNotice.Some u) = pushed l (Event.Unconstrained u)
+
+abbrev pub noticesOf : Notices → display.Notices
+noticesOf n =
+    pushUnconstrained (pushConnected (pushDisconnected (pushProvider empty (n .provider)) (n .disconnected)) (n .connected)) (n .unconstrained)
+
+-- the answer byte; an open event has none yet, and is refused
+abbrev pub answerOf : Phase → ℕ
+answerOf (Phase.Closed a) = answerByte a
+answerOf (Phase.Leaving i p f) = 0
+answerOf (Phase.Switching l old f new) = 0
+answerOf (Phase.Connecting s new) = 0
+answerOf (Phase.Providing p c) = 0
+
+abbrev pub packetOf : Service → EventPacket
+packetOf s =
+    record { number = s .number; answer = answerOf (s .phase); orders = s .orders; notices = noticesOf (s .memory .notices) }
+
+abbrev pub pictureOf : Service → Picture
+pictureOf s = record { number = s .number; display = displayOf (s .memory .state) }
+
+-- 25: while an event is open; 27: before event 1
+
+abbrev pub packetRefusals : Service → List (Bool × ℕ)
+packetRefusals s = (isOpen (s .phase), 25) ∷ (eqb (s .number) 0, 27) ∷ []
+
+abbrev pub pictureRefusals : Service → List (Bool × ℕ)
+pictureRefusals s = (isOpen (s .phase), 25) ∷ []
+
+abbrev pub sendPacket : Service → SentPacket
+sendPacket s =
+    let n : ℕ = firstRefused (packetRefusals s) in
+    cond (eqb n 0) (SentPacket.Packet (packetOf s)) (SentPacket.Refused n)
+
+abbrev pub sendPicture : Service → SentPicture
+sendPicture s =
+    let n : ℕ = firstRefused (pictureRefusals s) in
+    cond (eqb n 0) (SentPicture.Picture (pictureOf s)) (SentPicture.Refused n)
