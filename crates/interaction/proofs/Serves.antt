@@ -37,14 +37,14 @@ use Rattle.interaction.proofs.Told.{at-most-four}
 use Rattle.interaction.proofs.Kept.{opened-fits, answered-fits}
 
 -- the service at a phase, when the event had given so many orders before the open one
-abbrev openOrders : Interaction → ℕ
+abbrev pub openOrders : Interaction → ℕ
 openOrders (done a h) = 0
 openOrders (ask o k) = 1
 
-abbrev service : Registration → ℕ → ℕ → Phase → Memory → Service
+abbrev pub service : Registration → ℕ → ℕ → Phase → Memory → Service
 service g number given p m = record { registration = g; number = number; memory = m; orders = given; phase = p }
 
-abbrev serviceAt : Registration → ℕ → ℕ → Phase → Memory → Service
+abbrev pub serviceAt : Registration → ℕ → ℕ → Phase → Memory → Service
 serviceAt g number before p m =
     service g (numbered number (standsAt g p m)) (before + openOrders (standsAt g p m)) p m
 
@@ -55,12 +55,12 @@ turned-back true x y = refl
 turned-back false x y = refl
 
 -- closed: 24 or 26, and nothing changes
-closed-answer : (g : Registration) (number given : ℕ) (a : Result) (m : Memory) (n : ℕ) (r : Records) →
+pub closed-answer : (g : Registration) (number given : ℕ) (a : Result) (m : Memory) (n : ℕ) (r : Records) →
     answerOf (service g number given (Phase.Closed a) m) n r .service ≡ service g number given (Phase.Closed a) m
 closed-answer g number given a m n r = ap (λ z. z .service) (turned-back (unknownAnswer OptionOrder.None n) _ _)
 
 -- open: 24, and nothing changes, or the turn that the answer leads to
-open-answer : (g : Registration) (number given : ℕ) (p : Phase) (m : Memory) (o : Order) (n : ℕ) (r : Records) → orderOf p ≡ OptionOrder.Some o →
+pub open-answer : (g : Registration) (number given : ℕ) (p : Phase) (m : Memory) (o : Order) (n : ℕ) (r : Records) → orderOf p ≡ OptionOrder.Some o →
     answerOf (service g number given p m) n r .service
     ≡ cond (noAnswer o n) (refused 24 (service g number given p m)) (moved g number given (answeredOf g p o m (resultOf n) r)) .service
 open-answer g number given p m o n r e = rw e (go (noAnswer o n))
@@ -78,7 +78,7 @@ counted-on g number given p m k =
     rw (lt-ltb given 255 k) (ap (λ t. service g number t p m) e)
 
 -- the end of an accepted call
-moved-to : (g : Registration) (number given : ℕ) (p : Phase) (m : Memory) → number < 4294967295 → given < 255 →
+pub moved-to : (g : Registration) (number given : ℕ) (p : Phase) (m : Memory) → number < 4294967295 → given < 255 →
     moved g number given (record { phase = p; memory = m }) .service ≡ serviceAt g number given p m
 moved-to g number given (Phase.Closed a) m n k =
     let e : given ≡ given + 0 = omega arith in
@@ -189,7 +189,7 @@ answers-follow (x ∷ l) g number before (suc n) (Phase.Providing p c) m le nb f
 
 -- what a call brings about is where the service then stands
 
-moved-brings : (g : Registration) (number given : ℕ) (p : Phase) (m : Memory) →
+pub moved-brings : (g : Registration) (number given : ℕ) (p : Phase) (m : Memory) →
     moved g number given (record { phase = p; memory = m }) .step ≡ brings (standsAt g p m)
 moved-brings g number given (Phase.Closed a) m = refl
 moved-brings g number given (Phase.Leaving i p f) m = refl
@@ -199,21 +199,21 @@ moved-brings g number given (Phase.Providing p c) m = refl
 
 -- an event that is opened
 
-last-not-refused : (a b c d : Bool) → (let n : ℕ = cond a 23 (cond b 24 (cond c 25 (cond d 28 0))) in n ≡ 0) → d ≡ false
+pub last-not-refused : (a b c d : Bool) → (let n : ℕ = cond a 23 (cond b 24 (cond c 25 (cond d 28 0))) in n ≡ 0) → d ≡ false
 last-not-refused true b c d e = absurd (omega (arith, e))
 last-not-refused false true c d e = absurd (omega (arith, e))
 last-not-refused false false true d e = absurd (omega (arith, e))
 last-not-refused false false false true e = absurd (omega (arith, e))
 last-not-refused false false false false e = refl
 
-below : (number : ℕ) (b : Bool) → b ≡ false → number ≤ 4294967295 → not b && eqb number 4294967295 ≡ false → number < 4294967295
+pub below : (number : ℕ) (b : Bool) → b ≡ false → number ≤ 4294967295 → not b && eqb number 4294967295 ≡ false → number < 4294967295
 below number true k le e = absurd (true-false k)
   where
     true-false : true ≡ false → ⊥
     true-false h = eqb-false 0 0 h refl
 below number false k le e = omega (arith, eqb-false number 4294967295 e)
 
-opens : (s : Service) (kind device detail : ℕ) (r : Records) → Opens s kind device detail →
+pub opens : (s : Service) (kind device detail : ℕ) (r : Records) → Opens s kind device detail →
     openOf s kind device detail r ≡ openedOf s device (eventOf kind detail) r
 opens s kind device detail r h = rw (h .accepted, h .from-port)
 

@@ -1,0 +1,3 @@
+pub mod Matches
+pub mod Writer
+pub mod Linked
