@@ -25,9 +25,10 @@ use Rattle.event.specs.declared.memory.InternalState.{InternalState}
 use Rattle.event.specs.declared.memory.Records.{Records}
 use Rattle.event.specs.declared.memory.Registration.{Registration}
 use Rattle.event.specs.declared.phase.Order.{Order}
+use Rattle.process.specs.Process.{noReason, detachedReason}
 use Rattle.update.specs.Update.{reasonOf, unconstrainedOf, sameAvailable, isConnectedConsumer}
 use Rattle.interaction.specs.Action.{Held, Interaction, done, ask, Action, _>>=_, _>>_, skip, records, set, notify, await, ok, chargerOk, charger, psu, when, unless, each}
-use Rattle.interaction.specs.Interaction.{updateUnconstrainedState, attachCharger, postConsumerConnected, detachCharger, disconnectChargers, disconnectCurrent, connectConsumer, connectNewConsumer, connectBest, findBestConsumer, updateCurrentConsumer, postProviderConnected, provide, connectProvider, removeProvider, postProviderRemoved, noReason, becauseDetached, processPsuEvent, close, event}
+use Rattle.interaction.specs.Interaction.{updateUnconstrainedState, attachCharger, postConsumerConnected, detachCharger, disconnectChargers, disconnectCurrent, connectConsumer, connectNewConsumer, connectBest, findBestConsumer, updateCurrentConsumer, postProviderConnected, provide, connectProvider, removeProvider, postProviderRemoved, processPsuEvent, close, event}
 use Rattle.service.specs.Service.{resultOf}
 use Rattle.interaction.specs.Served.{Answers, noAnswer, ordersBy, AtMost}
 
@@ -253,7 +254,7 @@ event-costs g p EventData.RequestedProviderCapability =
     (reads (λ s r. provide g p (psuOf r p .«requested_provider_capability»)) (λ h r k. refl)
     (λ s r. provide-costs g p (psuOf r p .«requested_provider_capability»)))
 event-costs g p (EventData.Disconnected f) = first (departed-costs g p) (update-costs g f)
-event-costs g p EventData.Detached = first (departed-costs g p) (update-costs g becauseDetached)
+event-costs g p EventData.Detached = first (departed-costs g p) (update-costs g detachedReason)
 
 -- whatever the devices answer, an event closes after at most 3 + 4 × chargers orders
 pub event-bound : (g : Registration) (p : ℕ) (e : EventData) (s : InternalState) (r : Records) → AtMost (3 + 4 * g .chargers) (event g p e s r)

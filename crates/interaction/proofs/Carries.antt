@@ -28,10 +28,12 @@ use Rattle.event.specs.declared.memory.InternalState.{InternalState}
 use Rattle.event.specs.declared.memory.Records.{Records}
 use Rattle.event.specs.declared.memory.Registration.{Registration}
 use Rattle.event.specs.declared.phase.Order.{Order}
+use Rattle.process.specs.Process.{noReason, detachedReason}
+use Rattle.send.specs.Send.{displayOf}
 use Rattle.update.specs.Update.{reasonOf, unconstrainedOf, sameAvailable, isConnectedConsumer}
 use Rattle.interaction.specs.Action.{Held, Interaction, done, ask, Action, _>>=_, _>>_, skip, records, set, notify, await, ok, chargerOk, charger, psu, when, unless, each}
-use Rattle.interaction.specs.Carried.{displayOf, Leads, Carries}
-use Rattle.interaction.specs.Interaction.{updateUnconstrainedState, attachCharger, postConsumerConnected, detachCharger, disconnectChargers, disconnectCurrent, connectConsumer, connectNewConsumer, connectBest, findBestConsumer, updateCurrentConsumer, postProviderConnected, provide, connectProvider, removeProvider, postProviderRemoved, noReason, becauseDetached, processPsuEvent, close, event}
+use Rattle.interaction.specs.Carried.{Leads, Carries}
+use Rattle.interaction.specs.Interaction.{updateUnconstrainedState, attachCharger, postConsumerConnected, detachCharger, disconnectChargers, disconnectCurrent, connectConsumer, connectNewConsumer, connectBest, findBestConsumer, updateCurrentConsumer, postProviderConnected, provide, connectProvider, removeProvider, postProviderRemoved, processPsuEvent, close, event}
 
 applied-last : (l : List Event) (e : Event) (d : Display) → appliedAll (l ++ (e ∷ [])) d ≡ appliedTo (appliedAll l d) e
 applied-last [] e d = refl
@@ -310,7 +312,7 @@ module _ (d : Display) where
       reads (λ s r. provide g p (psuOf r p .«requested_provider_capability»)) (λ h r k. refl)
       (λ s r. forget s (provides g p (psuOf r p .«requested_provider_capability»)))
   events g p (EventData.Disconnected f) = then (departs g p) (updates g f)
-  events g p EventData.Detached = then (departs g p) (updates g becauseDetached)
+  events g p EventData.Detached = then (departs g p) (updates g detachedReason)
 
 -- whatever is answered, an event that closes without error has told of every change
 pub event-carries : (g : Registration) (p : ℕ) (e : EventData) (s : InternalState) (r : Records) → Carries (displayOf s) (event g p e s r)

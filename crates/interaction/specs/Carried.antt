@@ -1,16 +1,11 @@
--- What the desk is to see of the service's state, and that an event's notices lead from one such display to the next.
+-- That an event's notices lead from one display to the next.
 use mathlib.Core.Path.{_≡_}
 use Rattle.power_policy_interface.specs.declared.psu.Result.{Result}
 use Rattle.display.specs.Notices.{appliedAll}
 use Rattle.display.specs.declared.Display.{Display}
-use Rattle.event.specs.declared.memory.InternalState.{InternalState}
 use Rattle.event.specs.declared.memory.Records.{Records}
+use Rattle.send.specs.Send.{displayOf}
 use Rattle.interaction.specs.Action.{Held, Interaction, done, ask}
-
--- consumer, unconstrained figures and tracked providers; the power state is the service's own
-abbrev pub displayOf : InternalState → Display
-displayOf s =
-    record { consumer = s .«current_consumer_state»; unconstrained = s .unconstrained; providers = s .«connected_providers» }
 
 -- the notices so far lead from d to what is held
 abbrev pub Leads : Display → Held → Type 0

@@ -5,8 +5,6 @@ use mathlib.Core.List.{List, []}
 use Rattle.power_policy_interface.specs.Psu.{canConnectConsumerOf, canConnectProviderOf}
 use Rattle.power_policy_interface.specs.Service.{sameUnconstrained}
 use Rattle.power_policy_interface.specs.declared.capability.DisconnectFlags.{DisconnectFlags}
-use Rattle.power_policy_interface.specs.declared.capability.DisconnectReason.{DisconnectReason}
-use Rattle.power_policy_interface.specs.declared.capability.OptionDisconnectReason.{OptionDisconnectReason}
 use Rattle.power_policy_interface.specs.declared.capability.OptionProviderPowerCapability.{OptionProviderPowerCapability}
 use Rattle.power_policy_interface.specs.declared.capability.ProviderPowerCapability.{ProviderPowerCapability}
 use Rattle.power_policy_interface.specs.declared.psu.Result.{Result}
@@ -23,6 +21,7 @@ use Rattle.event.specs.declared.memory.InternalState.{InternalState}
 use Rattle.event.specs.declared.memory.Records.{Records}
 use Rattle.event.specs.declared.memory.Registration.{Registration}
 use Rattle.event.specs.declared.phase.Order.{Order}
+use Rattle.process.specs.Process.{noReason, detachedReason}
 use Rattle.update.specs.Update.{unconstrainedOf, reasonOf, sameAvailable, isConnectedConsumer}
 use Rattle.interaction.specs.Action.{Held, Interaction, done, ask, Action, _>>=_, _>>_, skip, state, records, set, notify, await, ok, psu, charger, when, unless, each}
 
@@ -146,12 +145,6 @@ postProviderRemoved g port = do
 
 -- service/mod.rs
 
-abbrev pub noReason : DisconnectFlags
-noReason = record { reason = OptionDisconnectReason.None }
-
-abbrev pub becauseDetached : DisconnectFlags
-becauseDetached = record { reason = OptionDisconnectReason.Some DisconnectReason.Detached }
-
 unfoldable pub processPsuEvent : Registration → ℕ → EventData → Action (Unit {0})
 processPsuEvent g device EventData.Attached = skip
 processPsuEvent g device EventData.UpdatedConsumerCapability = updateCurrentConsumer g noReason
@@ -161,7 +154,7 @@ processPsuEvent g device (EventData.Disconnected flags) = do
   updateCurrentConsumer g flags
 processPsuEvent g device EventData.Detached = do
   postProviderRemoved g device
-  updateCurrentConsumer g becauseDetached
+  updateCurrentConsumer g detachedReason
 
 -- `Ok(())`
 abbrev pub close : Unit {0} → Held → Records → Interaction

@@ -27,7 +27,8 @@ use Rattle.service.specs.Service.{stepped, moved, resultOf, answerOf, eventOf, 
 use Rattle.service.specs.declared.Service.{Service}
 use Rattle.service.specs.declared.Step.{Step}
 use Rattle.interaction.specs.Action.{Held, Interaction, done, ask}
-use Rattle.interaction.specs.Carried.{displayOf, Leads, Carries}
+use Rattle.send.specs.Send.{displayOf}
+use Rattle.interaction.specs.Carried.{Leads, Carries}
 use Rattle.interaction.specs.Interaction.{close, event}
 use Rattle.interaction.specs.Machine.{heldOf, listed, rest, standsAt, standsFor, Fits}
 use Rattle.interaction.specs.Served.{AtMost, noAnswer, numbered}

@@ -27,12 +27,11 @@ use Rattle.event.specs.declared.memory.ProviderNotice.{ProviderNotice}
 use Rattle.event.specs.declared.memory.Registration.{Registration}
 use Rattle.event.specs.declared.memory.UnconstrainedNotice.{UnconstrainedNotice}
 use Rattle.event.specs.declared.phase.Phase.{Phase}
-use Rattle.send.specs.Send.{noticesOf, packetOf, pictureOf, sendPacket, sendPicture}
+use Rattle.send.specs.Send.{displayOf, noticesOf, packetOf, pictureOf, sendPacket, sendPicture}
 use Rattle.send.specs.declared.SentPacket.{SentPacket}
 use Rattle.send.specs.declared.SentPicture.{SentPicture}
 use Rattle.service.specs.Refusals.{isOpen}
 use Rattle.service.specs.declared.Service.{Service}
-use Rattle.interaction.specs.Carried.{displayOf}
 use Rattle.interaction.specs.Machine.{listed}
 use Rattle.interaction.proofs.Serves.{service}
 use Rattle.run.specs.Policy.{Call, openEvent, giveAnswer, writePacket, writePicture, Policy, policyAfter, heldAt}

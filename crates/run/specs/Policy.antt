@@ -13,7 +13,7 @@ use Rattle.event.specs.declared.phase.Order.{Order}
 use Rattle.service.specs.Refusals.{firstRefused, openConditions}
 use Rattle.service.specs.Service.{eventOf, resultOf}
 use Rattle.interaction.specs.Action.{Interaction, done, ask}
-use Rattle.interaction.specs.Carried.{displayOf}
+use Rattle.send.specs.Send.{displayOf}
 use Rattle.interaction.specs.Interaction.{event}
 use Rattle.interaction.specs.Served.{noAnswer}
 
