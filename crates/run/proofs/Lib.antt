@@ -1,3 +1,5 @@
+pub mod Tracked
+pub mod Sized
 pub mod Matches
 pub mod Writer
 pub mod Linked

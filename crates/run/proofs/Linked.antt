@@ -1,7 +1,7 @@
--- A run, as a writer on the link. Still asked for: that each packet and picture of it has its fields within what document 01 lays out.
+-- Demand 3 for a run of the service: the run is a writer on the link (Writer.antt), and the link's theorem holds for every writer.
 use mathlib.Core.Path.{_≡_, refl, sym, ap, _∙_}
 use mathlib.Core.Bool.{true}
-use mathlib.Core.List.{List}
+use mathlib.Core.List.{List, []}
 use Prim.Native.Nat.{ℕ, suc, _≤_}
 use native.Mathlib.Omega.{arith}
 use Rattle.display.specs.declared.packet.EventPacket.{EventPacket}
@@ -11,41 +11,51 @@ use Rattle.event.specs.declared.memory.Registration.{Registration}
 use Rattle.power_policy_service.specs.declared.config.Config.{Config}
 use Rattle.service.specs.Service.{freshService}
 use Rattle.service.specs.declared.Service.{Service}
-use Rattle.wire.specs.WellFormed.{wellFormed}
 use Rattle.link.specs.Link.{Demand3}
 use Rattle.link.specs.Source.{Source}
 use Rattle.link.proofs.Demand.{demand-3}
 use Rattle.run.specs.Policy.{Call, started, heldAt}
 use Rattle.run.specs.Run.{Wrote}
+use Rattle.run.specs.Sized.{ConfigFits, CallsFit}
 use Rattle.run.proofs.Matches.{Runs}
-use Rattle.run.proofs.Writer.{wrote-tells, packetFor, wrote-one}
+use Rattle.run.proofs.Writer.{wrote-tells, packetFor, wrote-one, wrote-fits}
 
-module _ (config : Config) (ports chargers : ℕ) (few : chargers ≤ 8) (calls : List Call) where
+-- a start that is accepted, and calls whose records have their figures within their types
+module _ (config : Config) (ports chargers : ℕ) (ports-few : ports ≤ 16) (chargers-few : chargers ≤ 8) (config-fits : ConfigFits config) (calls : List Call)
+    (calls-fit : CallsFit calls) where
   abbrev pub start : Service
   start = freshService config ports chargers
 
   fresh-runs : Runs start freshState freshState
   fresh-runs = record {
-    chargers = few;
+    limits = record { chargers = chargers-few; ports = ports-few; config = config-fits };
     number = omega arith;
-    state = record { same = refl; few = omega arith; leads = λ e. refl };
+    state = record {
+      same = refl;
+      few = omega arith;
+      leads = λ e. refl;
+      sized = record {
+        state = record { consumer = refl; available = refl; tracks = record { ports = omega arith; few = omega arith } };
+        notices = refl;
+      };
+    };
   }
 
-  -- the writer: what is held comes from the event's definition, what is written from the machine
-  pub source : ((p : Packet) → Wrote start calls p → wellFormed p ≡ true) → Source
-  source fits = record {
+  -- what is held comes from the event's definition, fed with the start and the calls; what is written from the machine
+  pub source : Source
+  source = record {
     held = heldAt (started (start .registration)) calls;
     Written = Wrote start calls;
-    fits = fits;
+    fits = λ p w. wrote-fits calls start freshState freshState p calls-fit fresh-runs w;
     picture = λ v w.
-        wrote-tells (heldAt (started (start .registration)) calls) calls start freshState freshState (Packet.Picture v) fresh-runs (λ n l. refl) (λ n e. absurd (omega (arith, e))) w;
+        wrote-tells (heldAt (started (start .registration)) calls) calls start freshState freshState (Packet.Picture v) calls-fit fresh-runs (λ n l. refl) (λ n e. absurd (omega (arith, e))) w;
     event = λ n e w.
-        wrote-tells (heldAt (started (start .registration)) calls) calls start freshState freshState (Packet.Event e) fresh-runs (λ m l. refl) (λ m q. absurd (omega (arith, q))) w n;
+        wrote-tells (heldAt (started (start .registration)) calls) calls start freshState freshState (Packet.Event e) calls-fit fresh-runs (λ m l. refl) (λ m q. absurd (omega (arith, q))) w n;
     one = λ e f x y q.
-        wrote-one (packetFor start calls) calls start freshState freshState (Packet.Event e) fresh-runs (λ n a. refl) x
-        ∙ (ap (packetFor start calls) q ∙ sym (wrote-one (packetFor start calls) calls start freshState freshState (Packet.Event f) fresh-runs (λ n a. refl) y));
+        wrote-one (packetFor start calls) calls start freshState freshState (Packet.Event e) calls-fit fresh-runs (λ n a. refl) x
+        ∙ (ap (packetFor start calls) q ∙ sym (wrote-one (packetFor start calls) calls start freshState freshState (Packet.Event f) calls-fit fresh-runs (λ n a. refl) y));
   }
 
-  -- demand 3 for a run whose packets and pictures can be read
-  pub run-demand-3 : (fits : (p : Packet) → Wrote start calls p → wellFormed p ≡ true) → Demand3 (source fits)
-  run-demand-3 fits = demand-3 (source fits)
+  -- demand 3, whole
+  pub run-demand-3 : Demand3 source
+  run-demand-3 = demand-3 source

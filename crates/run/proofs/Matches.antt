@@ -5,8 +5,8 @@ use mathlib.Core.Bool.{Bool, true, false, cond, not, _&&_}
 use mathlib.Core.List.{List, [], _∷_, _++_}
 use Prim.Native.Nat.{ℕ, zero, suc, _+_, _*_, _<_, _≤_}
 use native.Mathlib.Omega.{arith}
-use lib.Dec.{ltb, eqb}
-use borrow.Author.Tests.{lt-ltb, eqb-true, eqb-false}
+use lib.Dec.{leb, ltb, eqb}
+use borrow.Author.Tests.{lt-ltb, le-leb, leb-false, eqb-true, eqb-false}
 use Rattle.power_policy_interface.specs.declared.psu.Result.{Result}
 use Rattle.display.specs.Notices.{appliedAll}
 use Rattle.display.specs.declared.Display.{Display}
@@ -39,6 +39,8 @@ use Rattle.interaction.proofs.Kept.{FitsTurn, opened-fits, answered-fits}
 use Rattle.interaction.proofs.Serves.{service, serviceAt, closed-answer, open-answer, moved-to, last-not-refused, below}
 use Rattle.run.specs.Policy.{Call, openEvent, giveAnswer, writePacket, writePicture, Stand, between, at, Policy, proceeds, isAt, opens, answers, policyAfter}
 use Rattle.run.specs.Run.{after}
+use Rattle.run.specs.Sized.{RecordsFit, ConfigFits, CallFits}
+use Rattle.run.proofs.Sized.{StateFits, HeldFits, Sized, event-sized}
 
 abbrev pub standOf : Interaction → Stand
 standOf (done a h) = between
@@ -64,12 +66,14 @@ pub record Open (g : Registration) (number given : ℕ) (p : Phase) (m : Memory)
   pub counted : given ≡ before + 1
   pub carries : Carries (displayOf held) (standsAt g p m)
   pub below : number < 4294967295
+  pub sized : Sized (standsAt g p m)
 
 -- a closed one: what is held is what it closed with, and without error its notices lead there from what was held before
 pub record Closed (given : ℕ) (a : Result) (m : Memory) (held before : InternalState) : Type 0 where
   pub same : m .state ≡ held
   pub few : given ≤ 35
   pub leads : a ≡ Result.Ok → displayOf held ≡ appliedAll (listed (m .notices)) (displayOf before)
+  pub sized : HeldFits (heldOf m)
 
 abbrev pub StateAt : Registration → ℕ → ℕ → Phase → Memory → InternalState → InternalState → Type 0
 StateAt g number given (Phase.Closed a) m held before = Closed given a m held before
@@ -78,8 +82,14 @@ StateAt g number given (Phase.Switching l old f new) m held before = Open g numb
 StateAt g number given (Phase.Connecting s new) m held before = Open g number given (Phase.Connecting s new) m held
 StateAt g number given (Phase.Providing p c) m held before = Open g number given (Phase.Providing p c) m held
 
+-- what a start accepts
+pub record Limits (g : Registration) : Type 0 where
+  pub chargers : g .chargers ≤ 8
+  pub ports : g .ports ≤ 16
+  pub config : ConfigFits (g .config)
+
 pub record Runs (s : Service) (held before : InternalState) : Type 0 where
-  pub chargers : s .registration .chargers ≤ 8
+  pub limits : Limits (s .registration)
   pub number : s .number ≤ 4294967295
   pub state : StateAt (s .registration) (s .number) (s .orders) (s .phase) (s .memory) held before
 
@@ -102,33 +112,33 @@ leads-ok d (Result.Err x) h c e = absurd (subst IsErr e tt)
     IsErr Result.Ok = ⊥
     IsErr (Result.Err y) = Unit {0}
 
-pub proceeds-both : (g : Registration) (number given more : ℕ) (p : Phase) (m : Memory) (held before : InternalState) → g .chargers ≤ 8 → number < 4294967295 →
-    Fits (g .chargers) p (m .notices) → AtMost more (standsAt g p m) → given + more ≤ 35 → Carries (displayOf held) (standsAt g p m) →
+pub proceeds-both : (g : Registration) (number given more : ℕ) (p : Phase) (m : Memory) (held before : InternalState) → Limits g → number < 4294967295 →
+    Fits (g .chargers) p (m .notices) → AtMost more (standsAt g p m) → given + more ≤ 35 → Carries (displayOf held) (standsAt g p m) → Sized (standsAt g p m) →
     Runs (serviceAt g number given p m) (nextHeld (standsAt g p m) held) (nextBefore (standsAt g p m) held before)
-proceeds-both g number given more (Phase.Closed a) m held before le nb f am su ca = record {
-  chargers = le;
+proceeds-both g number given more (Phase.Closed a) m held before le nb f am su ca sz = record {
+  limits = le;
   number = omega (arith, nb);
-  state = record { same = refl; few = omega (arith, su); leads = λ e. leads-ok (displayOf held) a (heldOf m) ca e };
+  state = record { same = refl; few = omega (arith, su); leads = λ e. leads-ok (displayOf held) a (heldOf m) ca e; sized = sz };
 }
-proceeds-both g number given more (Phase.Leaving i p x) m held before le nb f am su ca = record {
-  chargers = le;
+proceeds-both g number given more (Phase.Leaving i p x) m held before le nb f am su ca sz = record {
+  limits = le;
   number = omega (arith, nb);
-  state = record { fits = f; before = given; more = more; most = am; sum = su; counted = refl; carries = ca; below = nb };
+  state = record { fits = f; before = given; more = more; most = am; sum = su; counted = refl; carries = ca; below = nb; sized = sz };
 }
-proceeds-both g number given more (Phase.Switching l old x new) m held before le nb f am su ca = record {
-  chargers = le;
+proceeds-both g number given more (Phase.Switching l old x new) m held before le nb f am su ca sz = record {
+  limits = le;
   number = omega (arith, nb);
-  state = record { fits = f; before = given; more = more; most = am; sum = su; counted = refl; carries = ca; below = nb };
+  state = record { fits = f; before = given; more = more; most = am; sum = su; counted = refl; carries = ca; below = nb; sized = sz };
 }
-proceeds-both g number given more (Phase.Connecting s new) m held before le nb f am su ca = record {
-  chargers = le;
+proceeds-both g number given more (Phase.Connecting s new) m held before le nb f am su ca sz = record {
+  limits = le;
   number = omega (arith, nb);
-  state = record { fits = f; before = given; more = more; most = am; sum = su; counted = refl; carries = ca; below = nb };
+  state = record { fits = f; before = given; more = more; most = am; sum = su; counted = refl; carries = ca; below = nb; sized = sz };
 }
-proceeds-both g number given more (Phase.Providing p c) m held before le nb f am su ca = record {
-  chargers = le;
+proceeds-both g number given more (Phase.Providing p c) m held before le nb f am su ca sz = record {
+  limits = le;
   number = omega (arith, nb);
-  state = record { fits = f; before = given; more = more; most = am; sum = su; counted = refl; carries = ca; below = nb };
+  state = record { fits = f; before = given; more = more; most = am; sum = su; counted = refl; carries = ca; below = nb; sized = sz };
 }
 
 -- and the definition is where the machine is
@@ -167,35 +177,35 @@ moved-on g number given k (Phase.Connecting s new) q m n held before = asks refl
 moved-on g number given k (Phase.Providing p c) q m n held before = asks refl refl refl refl
 
 -- a turn that stands for what the definition goes on with
-went : (g : Registration) (number given k more : ℕ) (t : Turn) (q : Phase) (n : Memory) (held before : InternalState) (c : Call) (i : Interaction) → g .chargers ≤ 8 → number < 4294967295 →
-    standsFor g t ≡ i → FitsTurn g t → AtMost more i → given + more ≤ 35 → Carries (displayOf held) i →
+went : (g : Registration) (number given k more : ℕ) (t : Turn) (q : Phase) (n : Memory) (held before : InternalState) (c : Call) (i : Interaction) → Limits g → number < 4294967295 →
+    standsFor g t ≡ i → FitsTurn g t → AtMost more i → given + more ≤ 35 → Carries (displayOf held) i → Sized i →
     policyAfter (policyOf (service g number k q n) held) c ≡ proceeds (policyOf (service g number k q n) held) i →
     Went (service g number k q n) held before c (moved g number given t .service)
-went g number given k more t q n held before c i le nb e f am su ca pol =
+went g number given k more t q n held before c i le nb e f am su ca sz pol =
     subst (λ z. Went (service g number k q n) held before c z) (sym (moved-to g number given (t .phase) (t .memory) nb (omega (arith, su))))
     (record {
       heldₜ = nextHeld (standsFor g t) held;
       beforeₜ = nextBefore (standsFor g t) held before;
       same = pol ∙ (ap (λ z. proceeds (policyOf (service g number k q n) held) z) (sym e) ∙ proceeds-same g number given (t .phase) (t .memory) (policyOf (service g number k q n) held) refl refl);
-      runs = proceeds-both g number given more (t .phase) (t .memory) held before le nb f (subst (λ z. AtMost more z) (sym e) am) su (subst (λ z. Carries (displayOf held) z) (sym e) ca);
+      runs = proceeds-both g number given more (t .phase) (t .memory) held before le nb f (subst (λ z. AtMost more z) (sym e) am) su (subst (λ z. Carries (displayOf held) z) (sym e) ca) (subst Sized (sym e) sz);
       moves = moved-on g number given k (t .phase) q (t .memory) n held before;
     })
 
 -- an answer at an open phase
 
-answer-goes : (g : Registration) (number k : ℕ) (p : Phase) (m : Memory) (held before : InternalState) (o : Order) (a : ℕ) (r : Records) → g .chargers ≤ 8 → number ≤ 4294967295 →
+answer-goes : (g : Registration) (number k : ℕ) (p : Phase) (m : Memory) (held before : InternalState) (o : Order) (a : ℕ) (r : Records) → Limits g → RecordsFit r → number ≤ 4294967295 →
     orderOf p ≡ OptionOrder.Some o → standsAt g p m ≡ ask o (λ x y. rest g p x (heldOf m) y close) →
     standsFor g (answeredOf g p o m (resultOf a) r) ≡ rest g p (resultOf a) (heldOf m) r close →
     StateAt g number k p m held before → Open g number k p m held →
     Went (service g number k p m) held before (giveAnswer a r) (answerOf (service g number k p m) a r .service)
-answer-goes g number k p m held before o a r le nb eo es e st op =
+answer-goes g number k p m held before o a r le rf nb eo es e st op =
     subst (λ z. Went (service g number k p m) held before (giveAnswer a r) z) (sym (open-answer g number k p m o a r eo)) (go (noAnswer o a) refl)
   where
     s : Service
     s = service g number k p m
 
     runs : Runs s held before
-    runs = record { chargers = le; number = nb; state = st }
+    runs = record { limits = le; number = nb; state = st }
 
     i : Interaction
     i = rest g p (resultOf a) (heldOf m) r close
@@ -214,6 +224,7 @@ answer-goes g number k p m held before o a r le nb eo es e st op =
         (subst (λ z. AtMost (suc n) z) es am (resultOf a) r)
         (omega (arith, su, op .counted))
         (subst (λ z. Carries (displayOf held) z) es ca (resultOf a) r)
+        (subst Sized es (op .sized) (resultOf a) r rf)
         po
 
     go : (b : Bool) → noAnswer o a ≡ b →
@@ -230,6 +241,10 @@ open-is g (Phase.Switching l old f new) m = refl
 open-is g (Phase.Connecting s new) m = refl
 open-is g (Phase.Providing p c) m = refl
 
+registered : (a b c d : Bool) → (let n : ℕ = cond a 23 (cond b 24 (cond c 25 (cond d 28 0))) in n ≡ 0) → a ≡ false
+registered true b c d e = absurd (omega (arith, e))
+registered false b c d e = refl
+
 not-open : (a b c d : Bool) → (let n : ℕ = cond a 23 (cond b 24 (cond c 25 (cond d 28 0))) in n ≡ 0) → c ≡ false
 not-open true b c d e = absurd (omega (arith, e))
 not-open false true c d e = absurd (omega (arith, e))
@@ -241,15 +256,15 @@ module _ (g : Registration) (number k : ℕ) (kind device detail : ℕ) (r : Rec
   conditions waits = firstRefused (openConditions (g .ports) (g .chargers) waits number kind device detail)
 
   -- between events: the machine and the definition open the same event
-  open-closed : (a : Result) (m : Memory) (held before : InternalState) → g .chargers ≤ 8 → number ≤ 4294967295 → Closed k a m held before →
+  open-closed : (a : Result) (m : Memory) (held before : InternalState) → Limits g → RecordsFit r → number ≤ 4294967295 → Closed k a m held before →
       Went (service g number k (Phase.Closed a) m) held before (openEvent kind device detail r) (openOf (service g number k (Phase.Closed a) m) kind device detail r .service)
-  open-closed a m held before le nb st = go (eqb (conditions false) 0) refl (eqb kind 5) refl
+  open-closed a m held before le rf nb st = go (eqb (conditions false) 0) refl (eqb kind 5) refl
     where
       s : Service
       s = service g number k (Phase.Closed a) m
 
       runs : Runs s held before
-      runs = record { chargers = le; number = nb; state = st }
+      runs = record { limits = le; number = nb; state = st }
 
       i : Interaction
       i = event g device (eventOf kind detail) held r
@@ -272,6 +287,10 @@ module _ (g : Registration) (number k : ℕ) (kind device detail : ℕ) (r : Rec
           (ap (λ b. cond b (cond (eqb kind 5) (policyOf s held) (proceeds (policyOf s held) i)) (policyOf s held)) ex
           ∙ ap (λ b. cond b (policyOf s held) (proceeds (policyOf s held) i)) ey))
       go true ex false ey =
+          let nr : notRegistered (g .ports) (g .chargers) kind device ≡ false =
+          registered (notRegistered (g .ports) (g .chargers) kind device) (unknownEvent kind detail) false (numbersUsed kind number) (eqb-true (conditions false) 0 ex) in
+          let lp : leb (g .ports) device ≡ false = sym (ap (λ b. cond b (leb (g .chargers) device) (leb (g .ports) device)) ey) ∙ nr in
+          let port : leb device 15 ≡ true = le-leb device 15 (omega (arith, leb-false (g .ports) device lp, le .ports)) in
           let lt : number < 4294967295 = below number (eqb kind 5) ey nb (last-not-refused (notRegistered (g .ports) (g .chargers) kind device) (unknownEvent kind detail) false (numbersUsed kind number) (eqb-true (conditions false) 0 ex)) in
           subst (λ z. Went s held before (openEvent kind device detail r) z)
           (sym (ap (λ b. cond b (cond (eqb kind 5) (stepped (Step.Closed Result.Ok) s) (openedOf s device (eventOf kind detail) r)) (refused (conditions false) s) .service) ex
@@ -279,7 +298,8 @@ module _ (g : Registration) (number k : ℕ) (kind device detail : ℕ) (r : Rec
           ∙ ap (λ x. moved g number 0 (t x) .service) (st .same))))
           (went g number 0 k (3 + 4 * g .chargers) (t held) (Phase.Closed a) m held before (openEvent kind device detail r) i le lt
           (opened g held device (eventOf kind detail) r) (opened-fits g held device (eventOf kind detail) r)
-          (event-bound g device (eventOf kind detail) held r) (omega (arith, le)) (event-carries g device (eventOf kind detail) held r)
+          (event-bound g device (eventOf kind detail) held r) (omega (arith, le .chargers)) (event-carries g device (eventOf kind detail) held r)
+          (event-sized g (le .config) (le .ports) device (eventOf kind detail) held r port (subst StateFits (st .same) (st .sized .state)) rf)
           (ap (λ b. cond b (cond (eqb kind 5) (policyOf s held) (proceeds (policyOf s held) i)) (policyOf s held)) ex
           ∙ ap (λ b. cond b (policyOf s held) (proceeds (policyOf s held) i)) ey))
 
@@ -310,35 +330,35 @@ module _ (g : Registration) (number k : ℕ) (kind device detail : ℕ) (r : Rec
 
 -- every call
 
-goes-at : (g : Registration) (number k : ℕ) (p : Phase) (m : Memory) (held before : InternalState) (c : Call) → Runs (service g number k p m) held before →
+goes-at : (g : Registration) (number k : ℕ) (p : Phase) (m : Memory) (held before : InternalState) (c : Call) → CallFits c → Runs (service g number k p m) held before →
     Went (service g number k p m) held before c (after (service g number k p m) c)
-goes-at g number k p m held before writePacket x = stayed (service g number k p m) held before writePacket x refl
-goes-at g number k p m held before writePicture x = stayed (service g number k p m) held before writePicture x refl
-goes-at g number k (Phase.Closed a) m held before (giveAnswer n r) x =
+goes-at g number k p m held before writePacket cf x = stayed (service g number k p m) held before writePacket x refl
+goes-at g number k p m held before writePicture cf x = stayed (service g number k p m) held before writePicture x refl
+goes-at g number k (Phase.Closed a) m held before (giveAnswer n r) cf x =
     subst (λ z. Went (service g number k (Phase.Closed a) m) held before (giveAnswer n r) z) (sym (closed-answer g number k a m n r))
     (stayed (service g number k (Phase.Closed a) m) held before (giveAnswer n r) x refl)
-goes-at g number k (Phase.Leaving i p f) m held before (giveAnswer n r) x =
-    answer-goes g number k (Phase.Leaving i p f) m held before (Order.Detach i) n r (x .chargers) (x .number) refl refl
-    (leaving-answered g i p f m (x .chargers) (x .state .fits) (resultOf n) r) (x .state) (x .state)
-goes-at g number k (Phase.Switching l old f new) m held before (giveAnswer n r) x =
-    answer-goes g number k (Phase.Switching l old f new) m held before (switchOrder l old) n r (x .chargers) (x .number) refl refl
-    (switching-answered g l old f new m (x .chargers) (x .state .fits) (resultOf n) r) (x .state) (x .state)
-goes-at g number k (Phase.Connecting s new) m held before (giveAnswer n r) x =
-    answer-goes g number k (Phase.Connecting s new) m held before (connectOrder s new) n r (x .chargers) (x .number) refl refl
-    (connecting-answered g s new m (x .chargers) (x .state .fits) (resultOf n) r) (x .state) (x .state)
-goes-at g number k (Phase.Providing p c) m held before (giveAnswer n r) x =
-    answer-goes g number k (Phase.Providing p c) m held before (Order.ConnectProvider p c) n r (x .chargers) (x .number) refl refl
+goes-at g number k (Phase.Leaving i p f) m held before (giveAnswer n r) cf x =
+    answer-goes g number k (Phase.Leaving i p f) m held before (Order.Detach i) n r (x .limits) cf (x .number) refl refl
+    (leaving-answered g i p f m (x .limits .chargers) (x .state .fits) (resultOf n) r) (x .state) (x .state)
+goes-at g number k (Phase.Switching l old f new) m held before (giveAnswer n r) cf x =
+    answer-goes g number k (Phase.Switching l old f new) m held before (switchOrder l old) n r (x .limits) cf (x .number) refl refl
+    (switching-answered g l old f new m (x .limits .chargers) (x .state .fits) (resultOf n) r) (x .state) (x .state)
+goes-at g number k (Phase.Connecting s new) m held before (giveAnswer n r) cf x =
+    answer-goes g number k (Phase.Connecting s new) m held before (connectOrder s new) n r (x .limits) cf (x .number) refl refl
+    (connecting-answered g s new m (x .limits .chargers) (x .state .fits) (resultOf n) r) (x .state) (x .state)
+goes-at g number k (Phase.Providing p c) m held before (giveAnswer n r) cf x =
+    answer-goes g number k (Phase.Providing p c) m held before (Order.ConnectProvider p c) n r (x .limits) cf (x .number) refl refl
     (providing-answered g p c m (x .state .fits) (resultOf n) r) (x .state) (x .state)
-goes-at g number k (Phase.Closed a) m held before (openEvent kind device detail r) x =
-    open-closed g number k kind device detail r a m held before (x .chargers) (x .number) (x .state)
-goes-at g number k (Phase.Leaving i p f) m held before (openEvent kind device detail r) x =
+goes-at g number k (Phase.Closed a) m held before (openEvent kind device detail r) cf x =
+    open-closed g number k kind device detail r a m held before (x .limits) cf (x .number) (x .state)
+goes-at g number k (Phase.Leaving i p f) m held before (openEvent kind device detail r) cf x =
     open-open g number k kind device detail r (Phase.Leaving i p f) m held before refl x
-goes-at g number k (Phase.Switching l old f new) m held before (openEvent kind device detail r) x =
+goes-at g number k (Phase.Switching l old f new) m held before (openEvent kind device detail r) cf x =
     open-open g number k kind device detail r (Phase.Switching l old f new) m held before refl x
-goes-at g number k (Phase.Connecting s new) m held before (openEvent kind device detail r) x =
+goes-at g number k (Phase.Connecting s new) m held before (openEvent kind device detail r) cf x =
     open-open g number k kind device detail r (Phase.Connecting s new) m held before refl x
-goes-at g number k (Phase.Providing p c) m held before (openEvent kind device detail r) x =
+goes-at g number k (Phase.Providing p c) m held before (openEvent kind device detail r) cf x =
     open-open g number k kind device detail r (Phase.Providing p c) m held before refl x
 
-pub goes : (s : Service) (held before : InternalState) (c : Call) → Runs s held before → Went s held before c (after s c)
-goes s held before c x = goes-at (s .registration) (s .number) (s .orders) (s .phase) (s .memory) held before c x
+pub goes : (s : Service) (held before : InternalState) (c : Call) → CallFits c → Runs s held before → Went s held before c (after s c)
+goes s held before c cf x = goes-at (s .registration) (s .number) (s .orders) (s .phase) (s .memory) held before c cf x

@@ -6,13 +6,14 @@ use mathlib.Core.List.{List, [], _∷_, _++_}
 use mathlib.Core.Logic.{_⊎_, inl, inr, ⊎-elim}
 use Prim.Native.Nat.{ℕ, zero, suc, _+_, _<_, _≤_}
 use native.Mathlib.Omega.{arith}
-use lib.Dec.{eqb}
-use borrow.Author.Tests.{eq-eqb, ne-eqb, eqb-true, eqb-false}
+use lib.Dec.{leb, ltb, eqb}
+use borrow.Author.Tests.{eq-eqb, ne-eqb, eqb-true, eqb-false, lt-ltb, le-leb}
 use Rattle.power_policy_interface.specs.Psu.{answerByte}
 use Rattle.power_policy_interface.specs.declared.psu.Error.{Error}
 use Rattle.power_policy_interface.specs.declared.psu.Result.{Result}
 use Rattle.display.specs.Notices as display
 use Rattle.display.specs.Notices.{appliedAll, allApplied}
+use Rattle.display.specs.Providers.{len}
 use Rattle.display.specs.declared.Display.{Display}
 use Rattle.display.specs.declared.OptionAvailableConsumer.{OptionAvailableConsumer}
 use Rattle.display.specs.declared.packet.EventPacket.{EventPacket}
@@ -32,10 +33,13 @@ use Rattle.send.specs.declared.SentPacket.{SentPacket}
 use Rattle.send.specs.declared.SentPicture.{SentPicture}
 use Rattle.service.specs.Refusals.{isOpen}
 use Rattle.service.specs.declared.Service.{Service}
+use Rattle.wire.specs.WellFormed.{noticesFit, consumerFits, eventFits, pictureFits, wellFormed}
 use Rattle.interaction.specs.Machine.{listed}
 use Rattle.interaction.proofs.Serves.{service}
 use Rattle.run.specs.Policy.{Call, openEvent, giveAnswer, writePacket, writePicture, Policy, policyAfter, heldAt}
 use Rattle.run.specs.Run.{after, Writes, Wrote}
+use Rattle.run.specs.Sized.{CallsFit}
+use Rattle.run.proofs.Sized.{both}
 use Rattle.run.proofs.Matches.{policyOf, Closed, StateAt, Runs, Moved, stays, asks, closes, Went, goes}
 
 -- the notices of a packet are those of the event, in order
@@ -204,12 +208,12 @@ module _ (H : ℕ → Display) where
       let q = shown s (w .0) (w .1) in
       subst Tells (sym (w .2 ∙ ap Packet.Picture (q .1))) (picture-at (s .registration) (s .number) (s .orders) (s .phase) (s .memory) held before (x .state) (q .0) h)
 
-  pub wrote-tells : (l : List Call) (s : Service) (held before : InternalState) (p : Packet) → Runs s held before → Agrees (policyOf s held) l → Before s before → Wrote s l p → Tells p
-  wrote-tells (c ∷ l) s held before p x a b w =
+  pub wrote-tells : (l : List Call) (s : Service) (held before : InternalState) (p : Packet) → CallsFit l → Runs s held before → Agrees (policyOf s held) l → Before s before → Wrote s l p → Tells p
+  wrote-tells (c ∷ l) s held before p cf x a b w =
       ⊎-elim (λ z. writes-tells s held before c p x (now (policyOf s held) (c ∷ l) a) b z)
       (λ z.
-      let t = goes s held before c x in
-      wrote-tells l (after s c) (t .heldₜ) (t .beforeₜ) p (t .runs)
+      let t = goes s held before c (cf .0) x in
+      wrote-tells l (after s c) (t .heldₜ) (t .beforeₜ) p (cf .1) (t .runs)
       (later (policyOf s held) c l (policyOf (after s c) (t .heldₜ)) (t .same)
       (moved-number s (after s c) held (t .heldₜ) before (t .beforeₜ) (t .moves))
       (moved-held s (after s c) held (t .heldₜ) before (t .beforeₜ) (t .moves)) a)
@@ -268,10 +272,111 @@ module _ (K : ℕ → EventPacket) where
       let a : Ahead s (s .number) = (omega arith, λ x. absurd (eqb-false 0 0 (sym x ∙ q .0) refl)) in
       subst IsOne (sym (w .2 ∙ ap Packet.Event (q .1))) (sym (k (s .number) a ∙ now-packet s (writePacket ∷ l) (q .0)))
 
-  pub wrote-one : (l : List Call) (s : Service) (held before : InternalState) (p : Packet) → Runs s held before → Keeps s l → Wrote s l p → IsOne p
-  wrote-one (c ∷ l) s held before p x k w =
+  pub wrote-one : (l : List Call) (s : Service) (held before : InternalState) (p : Packet) → CallsFit l → Runs s held before → Keeps s l → Wrote s l p → IsOne p
+  wrote-one (c ∷ l) s held before p cf x k w =
       ⊎-elim (λ z. writes-one s c l p k z)
       (λ z.
-      let t = goes s held before c x in
-      wrote-one l (after s c) (t .heldₜ) (t .beforeₜ) p (t .runs) (keeps-on s held (t .heldₜ) before (t .beforeₜ) c l (t .moves) k) z)
+      let t = goes s held before c (cf .0) x in
+      wrote-one l (after s c) (t .heldₜ) (t .beforeₜ) p (cf .1) (t .runs) (keeps-on s held (t .heldₜ) before (t .beforeₜ) c l (t .moves) k) z)
       w
+
+-- each packet and picture has its fields within what document 01 lays out
+
+padded-with : (p : ProviderNotice) (d : DisconnectedNotice) (c : OptionAvailableConsumer) (u : UnconstrainedNotice) →
+    display.padded (noticesOf (noticesWith p d c u)) ≡ true
+padded-with ProviderNotice.None DisconnectedNotice.None OptionAvailableConsumer.None UnconstrainedNotice.None = refl
+padded-with ProviderNotice.None DisconnectedNotice.None OptionAvailableConsumer.None (UnconstrainedNotice.Some u) = refl
+padded-with ProviderNotice.None DisconnectedNotice.None (OptionAvailableConsumer.Some c) UnconstrainedNotice.None = refl
+padded-with ProviderNotice.None DisconnectedNotice.None (OptionAvailableConsumer.Some c) (UnconstrainedNotice.Some u) = refl
+padded-with ProviderNotice.None (DisconnectedNotice.Some x y) OptionAvailableConsumer.None UnconstrainedNotice.None = refl
+padded-with ProviderNotice.None (DisconnectedNotice.Some x y) OptionAvailableConsumer.None (UnconstrainedNotice.Some u) = refl
+padded-with ProviderNotice.None (DisconnectedNotice.Some x y) (OptionAvailableConsumer.Some c) UnconstrainedNotice.None = refl
+padded-with ProviderNotice.None (DisconnectedNotice.Some x y) (OptionAvailableConsumer.Some c) (UnconstrainedNotice.Some u) = refl
+padded-with (ProviderNotice.Disconnected a) DisconnectedNotice.None OptionAvailableConsumer.None UnconstrainedNotice.None = refl
+padded-with (ProviderNotice.Disconnected a) DisconnectedNotice.None OptionAvailableConsumer.None (UnconstrainedNotice.Some u) = refl
+padded-with (ProviderNotice.Disconnected a) DisconnectedNotice.None (OptionAvailableConsumer.Some c) UnconstrainedNotice.None = refl
+padded-with (ProviderNotice.Disconnected a) DisconnectedNotice.None (OptionAvailableConsumer.Some c) (UnconstrainedNotice.Some u) = refl
+padded-with (ProviderNotice.Disconnected a) (DisconnectedNotice.Some x y) OptionAvailableConsumer.None UnconstrainedNotice.None = refl
+padded-with (ProviderNotice.Disconnected a) (DisconnectedNotice.Some x y) OptionAvailableConsumer.None (UnconstrainedNotice.Some u) = refl
+padded-with (ProviderNotice.Disconnected a) (DisconnectedNotice.Some x y) (OptionAvailableConsumer.Some c) UnconstrainedNotice.None = refl
+padded-with (ProviderNotice.Disconnected a) (DisconnectedNotice.Some x y) (OptionAvailableConsumer.Some c) (UnconstrainedNotice.Some u) = refl
+padded-with (ProviderNotice.Connected a b) DisconnectedNotice.None OptionAvailableConsumer.None UnconstrainedNotice.None = refl
+padded-with (ProviderNotice.Connected a b) DisconnectedNotice.None OptionAvailableConsumer.None (UnconstrainedNotice.Some u) = refl
+padded-with (ProviderNotice.Connected a b) DisconnectedNotice.None (OptionAvailableConsumer.Some c) UnconstrainedNotice.None = refl
+padded-with (ProviderNotice.Connected a b) DisconnectedNotice.None (OptionAvailableConsumer.Some c) (UnconstrainedNotice.Some u) = refl
+padded-with (ProviderNotice.Connected a b) (DisconnectedNotice.Some x y) OptionAvailableConsumer.None UnconstrainedNotice.None = refl
+padded-with (ProviderNotice.Connected a b) (DisconnectedNotice.Some x y) OptionAvailableConsumer.None (UnconstrainedNotice.Some u) = refl
+padded-with (ProviderNotice.Connected a b) (DisconnectedNotice.Some x y) (OptionAvailableConsumer.Some c) UnconstrainedNotice.None = refl
+padded-with (ProviderNotice.Connected a b) (DisconnectedNotice.Some x y) (OptionAvailableConsumer.Some c) (UnconstrainedNotice.Some u) = refl
+
+padded-all : (n : Notices) → display.padded (noticesOf n) ≡ true
+padded-all n = padded-with (n .provider) (n .disconnected) (n .connected) (n .unconstrained)
+
+answer-le : (a : Result) → leb (answerByte a) 10 ≡ true
+answer-le Result.Ok = refl
+answer-le (Result.Err Error.InvalidDevice) = refl
+answer-le (Result.Err Error.CannotProvide) = refl
+answer-le (Result.Err Error.CannotConsume) = refl
+answer-le (Result.Err (Error.InvalidState x)) = refl
+answer-le (Result.Err Error.InvalidResponse) = refl
+answer-le (Result.Err Error.Busy) = refl
+answer-le (Result.Err Error.Timeout) = refl
+answer-le (Result.Err Error.Bus) = refl
+answer-le (Result.Err Error.Charger) = refl
+answer-le (Result.Err Error.Failed) = refl
+
+packet-fits : (g : Registration) (number k : ℕ) (a : Result) (m : Memory) (held before : InternalState) → Closed k a m held before → number ≤ 4294967295 → eqb number 0 ≡ false →
+    eventFits (packetOf (service g number k (Phase.Closed a) m)) ≡ true
+unfolding eventFits
+packet-fits g number k a m held before c nb nz =
+    let n : display.padded (noticesOf (m .notices)) && noticesFit (display.listed (noticesOf (m .notices))) ≡ true =
+    both (display.padded (noticesOf (m .notices))) (noticesFit (display.listed (noticesOf (m .notices)))) (padded-all (m .notices))
+    (ap noticesFit (listed-same (m .notices)) ∙ c .sized .notices) in
+    both (ltb 0 number) _ (lt-ltb 0 number (omega (arith, eqb-false number 0 nz)))
+    (both (leb number 4294967295) _ (le-leb number 4294967295 nb)
+    (both (leb (answerByte a) 10) _ (answer-le a) (both (leb k 35) _ (le-leb k 35 (c .few)) n)))
+
+picture-fits : (g : Registration) (number k : ℕ) (a : Result) (m : Memory) (held before : InternalState) → Closed k a m held before → number ≤ 4294967295 →
+    pictureFits (pictureOf (service g number k (Phase.Closed a) m)) ≡ true
+unfolding pictureFits
+picture-fits g number k a m held before c nb =
+    let t = c .sized .state .tracks in
+    both (leb number 4294967295) _ (le-leb number 4294967295 nb)
+    (both (consumerFits (m .state .«current_consumer_state»)) _ (c .sized .state .consumer)
+    (both (leb (m .state .unconstrained .available) 16) _ (c .sized .state .available)
+    (both (ltb (m .state .«connected_providers» .mask) 65536) _ (lt-ltb (m .state .«connected_providers» .mask) 65536 (t .ports))
+    (le-leb (len (m .state .«connected_providers»)) 4 (t .few)))))
+
+packet-fits-at : (g : Registration) (number k : ℕ) (p : Phase) (m : Memory) (held before : InternalState) → StateAt g number k p m held before → isOpen p ≡ false → number ≤ 4294967295 → eqb number 0 ≡ false →
+    eventFits (packetOf (service g number k p m)) ≡ true
+packet-fits-at g number k (Phase.Closed a) m held before c o nb nz = packet-fits g number k a m held before c nb nz
+packet-fits-at g number k (Phase.Leaving i p f) m held before c o nb nz = absurd (eqb-false 0 0 o refl)
+packet-fits-at g number k (Phase.Switching l old f new) m held before c o nb nz = absurd (eqb-false 0 0 o refl)
+packet-fits-at g number k (Phase.Connecting s new) m held before c o nb nz = absurd (eqb-false 0 0 o refl)
+packet-fits-at g number k (Phase.Providing p d) m held before c o nb nz = absurd (eqb-false 0 0 o refl)
+
+picture-fits-at : (g : Registration) (number k : ℕ) (p : Phase) (m : Memory) (held before : InternalState) → StateAt g number k p m held before → isOpen p ≡ false → number ≤ 4294967295 →
+    pictureFits (pictureOf (service g number k p m)) ≡ true
+picture-fits-at g number k (Phase.Closed a) m held before c o nb = picture-fits g number k a m held before c nb
+picture-fits-at g number k (Phase.Leaving i p f) m held before c o nb = absurd (eqb-false 0 0 o refl)
+picture-fits-at g number k (Phase.Switching l old f new) m held before c o nb = absurd (eqb-false 0 0 o refl)
+picture-fits-at g number k (Phase.Connecting s new) m held before c o nb = absurd (eqb-false 0 0 o refl)
+picture-fits-at g number k (Phase.Providing p d) m held before c o nb = absurd (eqb-false 0 0 o refl)
+
+writes-fits : (s : Service) (held before : InternalState) (c : Call) (p : Packet) → Runs s held before → Writes s c p → wellFormed p ≡ true
+writes-fits s held before (openEvent kind device detail r) p x w = absurd w
+writes-fits s held before (giveAnswer a r) p x w = absurd w
+writes-fits s held before writePacket p x w =
+    let q = sent (λ n. displayOf held) s (w .0) (w .1) in
+    subst (λ z. wellFormed z ≡ true) (sym (w .2 ∙ ap Packet.Event (q .1)))
+    (packet-fits-at (s .registration) (s .number) (s .orders) (s .phase) (s .memory) held before (x .state) (q .0) (x .number) (q .2))
+writes-fits s held before writePicture p x w =
+    let q = shown (λ n. displayOf held) s (w .0) (w .1) in
+    subst (λ z. wellFormed z ≡ true) (sym (w .2 ∙ ap Packet.Picture (q .1)))
+    (picture-fits-at (s .registration) (s .number) (s .orders) (s .phase) (s .memory) held before (x .state) (q .0) (x .number))
+
+pub wrote-fits : (l : List Call) (s : Service) (held before : InternalState) (p : Packet) → CallsFit l → Runs s held before → Wrote s l p → wellFormed p ≡ true
+wrote-fits (c ∷ l) s held before p cf x w =
+    ⊎-elim (λ z. writes-fits s held before c p x z)
+    (λ z. let t = goes s held before c (cf .0) x in wrote-fits l (after s c) (t .heldₜ) (t .beforeₜ) p (cf .1) (t .runs) z)
+    w

@@ -1,0 +1,45 @@
+-- Fields within what document 01 lays out: of records and a configuration as their types have them, and so of what is held and told.
+use Prim.Native.Nat.{ℕ, _<_, _≤_}
+use mathlib.Core.Bool.{true}
+use mathlib.Core.Path.{_≡_}
+use lib.Dec.{leb}
+use Rattle.power_policy_interface.specs.declared.capability.OptionConsumerPowerCapability.{OptionConsumerPowerCapability}
+use Rattle.power_policy_interface.specs.declared.capability.OptionProviderPowerCapability.{OptionProviderPowerCapability}
+use Rattle.power_policy_interface.specs.declared.psu.State.{State}
+use Rattle.display.specs.Providers.{len}
+use Rattle.display.specs.declared.providers.Providers.{Providers}
+use Rattle.power_policy_service.specs.Rows.{psuAt}
+use Rattle.power_policy_service.specs.declared.config.Config.{Config}
+use Rattle.event.specs.declared.memory.Records.{Records}
+use Rattle.wire.specs.WellFormed.{capabilityFits}
+use Rattle.run.specs.Policy.{Call, openEvent, giveAnswer, writePacket, writePicture}
+use mathlib.Core.List.{List, [], _∷_}
+
+-- 16 bits for mV and mA
+abbrev pub OfferFits : OptionConsumerPowerCapability → Type 0
+OfferFits OptionConsumerPowerCapability.None = Unit {0}
+OfferFits (OptionConsumerPowerCapability.Some c) = capabilityFits (c .capability) ≡ true
+
+abbrev pub RequestFits : OptionProviderPowerCapability → Type 0
+RequestFits OptionProviderPowerCapability.None = Unit {0}
+RequestFits (OptionProviderPowerCapability.Some c) = capabilityFits (c .capability) ≡ true
+
+abbrev pub PsuFits : State → Type 0
+PsuFits s = OfferFits (s .«consumer_capability») × RequestFits (s .«requested_provider_capability»)
+
+abbrev pub RecordsFit : Records → Type 0
+RecordsFit r = (p : ℕ) → p < 16 → PsuFits (psuAt (r .psus) p)
+
+pub record ConfigFits (c : Config) : Type 0 where
+  pub unlimited : capabilityFits (c .«provider_unlimited») ≡ true
+  pub limited : capabilityFits (c .«provider_limited») ≡ true
+
+abbrev pub CallFits : Call → Type 0
+CallFits (openEvent kind device detail r) = RecordsFit r
+CallFits (giveAnswer a r) = RecordsFit r
+CallFits writePacket = Unit {0}
+CallFits writePicture = Unit {0}
+
+abbrev pub CallsFit : List Call → Type 0
+CallsFit [] = Unit {0}
+CallsFit (c ∷ l) = CallFits c × CallsFit l
