@@ -1,7 +1,7 @@
 -- The edges of document 01 as theorems about the definitions that the contracts cite: the record is the table, `edges` its proof.
 use mathlib.Core.Path.{_≡_, refl, ap, sym, subst}
 use mathlib.Core.Bool.{Bool, true, false, cond}
-use mathlib.Core.List.{List, [], _∷_}
+use mathlib.Core.List.{List, [], _∷_, _++_}
 use Prim.Native.Nat.{ℕ, _<_}
 use lib.Dec.{T}
 use Rattle.power_policy_interface.specs.Capability.{maxPowerMw, sameOptionProvider}
@@ -22,6 +22,21 @@ use Rattle.power_policy_interface.specs.declared.psu.event.EventData.{EventData
 use Rattle.power_policy_interface.specs.declared.service.event.Event.{Event}
 use Rattle.power_policy_interface.proofs.Same.{option-provider-refl}
 use Rattle.display.specs.declared.OptionAvailableConsumer.{OptionAvailableConsumer}
+use Rattle.wire.specs.Number.{leb128, readNumber}
+use Rattle.wire.specs.Packet.{capability, consumer, unconstrained, consumerConnected, noticeOf, notice, eventNotices, eventAfter, event as eventPacket, pictureAfter, picture, packetOf, packet}
+use Rattle.wire.specs.Parser.{field, number}
+use Rattle.wire.specs.Read.{readPacket}
+use Rattle.wire.specs.declared.number.ReadNumber.{ReadNumber}
+use Rattle.framing.specs.Framing.{framed}
+use Rattle.follower.specs.Follower as follower
+use Rattle.follower.specs.Held.{noneHeld, greatest, above}
+use Rattle.follower.specs.declared.Follower.{Follower}
+use Rattle.follower.specs.declared.OptionNumber.{OptionNumber}
+use Rattle.follower.specs.declared.State as shown
+use Rattle.report.specs.Text.{decimal, header}
+use Rattle.report.specs.Line.{lineOf, lineBytes, refusedBytes}
+use Rattle.report.specs.Desk.{afterRead, takenBy, lineFor, follow}
+use Rattle.report.specs.declared.line.Line.{Line}
 use Rattle.power_policy_service.specs.Config.{rustDefault}
 use Rattle.power_policy_service.specs.Consumer.{eligible, available, bestOf}
 use Rattle.power_policy_service.specs.Provider.{powerStateOf}
@@ -86,6 +101,44 @@ tracking mask s =
 abbrev opened : ℕ → ℕ → EventData → InternalState → List State → Interaction
 opened n p e s l = event (ports n) p e s (rows l)
 
+-- the packets of document 01's example
+
+abbrev picture0 : List ℕ
+picture0 = 0x02 ∷ 0x00 ∷ 0x00 ∷ 0x00 ∷ 0x00 ∷ 0x00 ∷ []
+
+abbrev event2 : List ℕ
+event2 = 0x01 ∷ 0x02 ∷ 0x00 ∷ 0x00 ∷ 0x00 ∷ []
+
+abbrev event1 : List ℕ
+event1 = 0x01 ∷ 0x01 ∷ 0x00 ∷ 0x02 ∷ 0x01 ∷ 0x02 ∷ 0x01 ∷ 0xA0 ∷ 0x9C ∷ 0x01 ∷ 0xB8 ∷ 0x17 ∷ 0x02 ∷ []
+
+abbrev event3 : List ℕ
+event3 = 0x01 ∷ 0x03 ∷ 0x07 ∷ 0x01 ∷ 0x00 ∷ []
+
+abbrev line : OptionNumber → shown.State → OptionNumber → OptionNumber → Line
+line n s p m = record { shown = n; state = s; port = p; mw = m }
+
+-- what the line after each packet says
+abbrev taking : Follower → List (List ℕ) → List Line
+taking f [] = []
+taking f (p ∷ l) = lineOf (afterRead f (readPacket p)) ∷ taking (afterRead f (readPacket p)) l
+
+-- the example's input, and what `follow` writes for it
+
+abbrev exampleInput : List ℕ
+exampleInput =
+    (0x06 ∷ picture0) ++ ((0x05 ∷ event2) ++ ((0x0D ∷ event1) ++ ((0x0D ∷ event1) ++ (0x05 ∷ event3))))
+
+-- "1 0 level - -", "2 0 waiting - -", "3 2 level 1 60000", "4 2 level 1 60000", "5 - lost - -"
+abbrev exampleOutput : List ℕ
+exampleOutput =
+    header
+    ++ ((49 ∷ 32 ∷ 48 ∷ 32 ∷ 108 ∷ 101 ∷ 118 ∷ 101 ∷ 108 ∷ 32 ∷ 45 ∷ 32 ∷ 45 ∷ 10 ∷ [])
+    ++ ((50 ∷ 32 ∷ 48 ∷ 32 ∷ 119 ∷ 97 ∷ 105 ∷ 116 ∷ 105 ∷ 110 ∷ 103 ∷ 32 ∷ 45 ∷ 32 ∷ 45 ∷ 10 ∷ [])
+    ++ ((51 ∷ 32 ∷ 50 ∷ 32 ∷ 108 ∷ 101 ∷ 118 ∷ 101 ∷ 108 ∷ 32 ∷ 49 ∷ 32 ∷ 54 ∷ 48 ∷ 48 ∷ 48 ∷ 48 ∷ 10 ∷ [])
+    ++ ((52 ∷ 32 ∷ 50 ∷ 32 ∷ 108 ∷ 101 ∷ 118 ∷ 101 ∷ 108 ∷ 32 ∷ 49 ∷ 32 ∷ 54 ∷ 48 ∷ 48 ∷ 48 ∷ 48 ∷ 10 ∷ [])
+    ++ (53 ∷ 32 ∷ 45 ∷ 32 ∷ 108 ∷ 111 ∷ 115 ∷ 116 ∷ 32 ∷ 45 ∷ 32 ∷ 45 ∷ 10 ∷ [])))))
+
 pub record Edges : Type 0 where
   -- P1: 5,000 mV, 3,000 mA is 15,000 mW; 999 mV, 1 mA is 0; 65,535 twice is 4,294,836
   pub P1-type-c : mW 5000 3000 ≡ 15000
@@ -126,10 +179,49 @@ pub record Edges : Type 0 where
   pub P10-removed : (e : PowerState)
       → opened 5 4 EventData.Detached (tracking 15 e) (nothing ∷ nothing ∷ nothing ∷ nothing ∷ nothing ∷ [])
       ≡ done Result.Ok (record { state = tracking 15 e; notices = [] })
+  -- P11: 128 is 80 01, 300 is AC 02, 80 00 is refused 31, whatever the limit and the rest
+  pub P11-128 : leb128 128 ≡ 0x80 ∷ 0x01 ∷ []
+  pub P11-300 : leb128 300 ≡ 0xAC ∷ 0x02 ∷ []
+  pub P11-refused : (limit : ℕ) (rest : List ℕ) → readNumber limit (0x80 ∷ 0x00 ∷ rest) ≡ ReadNumber.Refused 31
+  -- P12: the five takes of the example: n, state, port and mW after each; and the bytes that `follow` writes for its input
+  pub P12 : taking follower.fresh (picture0 ∷ event2 ∷ event1 ∷ event1 ∷ event3 ∷ [])
+      ≡ line (OptionNumber.Some 0) shown.State.Level OptionNumber.None OptionNumber.None
+      ∷ line (OptionNumber.Some 0) shown.State.Waiting OptionNumber.None OptionNumber.None
+      ∷ line (OptionNumber.Some 2) shown.State.Level (OptionNumber.Some 1) (OptionNumber.Some 60000)
+      ∷ line (OptionNumber.Some 2) shown.State.Level (OptionNumber.Some 1) (OptionNumber.Some 60000)
+      ∷ line OptionNumber.None shown.State.Lost OptionNumber.None OptionNumber.None
+      ∷ []
+  pub P12-written : follow exampleInput ≡ exampleOutput
 
 is-true : (b : Bool) → T b → b ≡ true
 is-true true t = refl
 is-true false t = absurd t
+
+p11-128 : leb128 128 ≡ 0x80 ∷ 0x01 ∷ []
+unfolding leb128
+p11-128 = refl
+
+p11-300 : leb128 300 ≡ 0xAC ∷ 0x02 ∷ []
+unfolding leb128
+p11-300 = refl
+
+p11-refused : (limit : ℕ) (rest : List ℕ) → readNumber limit (0x80 ∷ 0x00 ∷ rest) ≡ ReadNumber.Refused 31
+unfolding readNumber
+p11-refused limit rest = refl
+
+p12 : taking follower.fresh (picture0 ∷ event2 ∷ event1 ∷ event1 ∷ event3 ∷ [])
+    ≡ line (OptionNumber.Some 0) shown.State.Level OptionNumber.None OptionNumber.None
+    ∷ line (OptionNumber.Some 0) shown.State.Waiting OptionNumber.None OptionNumber.None
+    ∷ line (OptionNumber.Some 2) shown.State.Level (OptionNumber.Some 1) (OptionNumber.Some 60000)
+    ∷ line (OptionNumber.Some 2) shown.State.Level (OptionNumber.Some 1) (OptionNumber.Some 60000)
+    ∷ line OptionNumber.None shown.State.Lost OptionNumber.None OptionNumber.None
+    ∷ []
+unfolding lineOf readNumber field number capability consumer unconstrained consumerConnected noticeOf notice eventNotices eventAfter eventPacket pictureAfter picture packetOf packet noneHeld greatest above follower.inTurn
+p12 = refl
+
+p12-written : follow exampleInput ≡ exampleOutput
+unfolding follow framed takenBy lineFor lineBytes refusedBytes decimal lineOf readNumber field number capability consumer unconstrained consumerConnected noticeOf notice eventNotices eventAfter eventPacket pictureAfter picture packetOf packet noneHeld greatest above follower.inTurn
+p12-written = refl
 
 pub edges : Edges
 unfolding processPsuEvent connectProvider provide postProviderConnected postProviderRemoved removeProvider updateCurrentConsumer connectBest updateUnconstrainedState
@@ -151,4 +243,9 @@ edges =
       P9 = λ c r. rw (is-true (sameOptionProvider r r) (option-provider-refl r));
       P10-connected = refl;
       P10-removed = λ e. refl;
+      P11-128 = p11-128;
+      P11-300 = p11-300;
+      P11-refused = p11-refused;
+      P12 = p12;
+      P12-written = p12-written;
     }

@@ -233,6 +233,24 @@ pub fn packet_stream(seed: u64, count: usize) -> Vec<u8> {
     out
 }
 
+/// Picture 0 and then `count` events without an error, in order and framed: each is
+/// applied at once.
+pub fn event_stream(seed: u64, count: usize) -> Vec<u8> {
+    let mut rng = Rng::new(seed);
+    let mut out = Vec::new();
+    let picture = Picture {
+        number: 0,
+        display: Display::empty(),
+    };
+    frame(&mut out, &packet::write(&Packet::Picture(picture)));
+    for number in 1..=count as u32 {
+        let mut event = event(&mut rng, number);
+        event.answer = 0;
+        frame(&mut out, &packet::write(&Packet::Event(event)));
+    }
+    out
+}
+
 // Damaged packets.
 
 /// The bytes and what single damages make of them: cut at every byte, from 1 byte to

@@ -17,6 +17,7 @@ const USAGE: &str = "usage:
   model gen-damaged SEED N    > stream
   model gen-short [all]       > stream
   model gen-takes SEED N      > stream
+  model gen-events SEED N     > stream
 ";
 
 fn main() -> ExitCode {
@@ -36,6 +37,7 @@ fn main() -> ExitCode {
                 "gen-packets" => output(&generate::packet_stream(seed, count)),
                 "gen-damaged" => output(&generate::damaged_stream(seed, count)),
                 "gen-takes" => output(&generate::take_stream(seed, count)),
+                "gen-events" => output(&generate::event_stream(seed, count)),
                 _ => return usage(),
             }
         }

@@ -1,0 +1,52 @@
+-- The header is within the buffer.
+use mathlib.Core.Path.{refl}
+use native.Mathlib.Omega.{arith}
+use lib.ListN.{replicate}
+use Rattle.report.specs.Text.{header}
+use Rattle.report.proofs.Lengths.{in-buffer}
+use borrow.Author.Needs.{needs}
+use Rattle.follow.proofs.main.Statement.{statement}
+use Rattle.follow.proofs.main.Tie as tie
+
+write-header-requires : tie.Need-write-header-requires
+write-header-requires c κs = search needs
+
+array-share-prefix-line : tie.Need-array-share-prefix-line
+array-share-prefix-line c =
+    let w = c .write-header in
+    in-buffer (replicate 128 0) (w .last .0) header (w .result) refl (w .ensures .0) (w .ensures .1) (omega arith) .0
+
+slice-aggregate-write-all : tie.Need-slice-aggregate-write-all
+slice-aggregate-write-all c = search needs
+
+write-all-requires : tie.Need-write-all-requires
+write-all-requires c κs = search needs
+
+unwritten-requires : tie.Need-unwritten-requires
+unwritten-requires c κs = search needs
+
+returns : tie.Need-returns
+returns c = search needs
+
+slice-aggregate-run : tie.Need-slice-aggregate-run
+slice-aggregate-run c = search needs
+
+run-requires : tie.Need-run-requires
+run-requires c κs = search needs
+
+returns-2 : tie.Need-returns-2
+returns-2 c = search needs
+
+pub main-spec : {M : Type 1} → statement M
+main-spec =
+    tie.close
+    (tie.spec
+    write-header-requires
+    array-share-prefix-line
+    slice-aggregate-write-all
+    write-all-requires
+    unwritten-requires
+    returns
+    slice-aggregate-run
+    run-requires
+    returns-2)
