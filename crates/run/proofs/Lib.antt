@@ -1,5 +1,6 @@
 pub mod Tracked
 pub mod Sized
 pub mod Matches
+pub mod Returns
 pub mod Writer
 pub mod Linked

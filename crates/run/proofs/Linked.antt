@@ -1,4 +1,4 @@
--- Demand 3 for a run of the service: the run is a writer on the link (Writer.antt), and the link's theorem holds for every writer.
+-- Demands 2 and 3 for a run of the service: machine and definition go through it together (Returns.antt), the run is a writer on the link (Writer.antt), and the link's theorem holds for every writer.
 use mathlib.Core.Path.{_≡_, refl, sym, ap, _∙_}
 use mathlib.Core.Bool.{true}
 use mathlib.Core.List.{List, []}
@@ -15,9 +15,10 @@ use Rattle.link.specs.Link.{Demand3}
 use Rattle.link.specs.Source.{Source}
 use Rattle.link.proofs.Demand.{demand-3}
 use Rattle.run.specs.Policy.{Call, started, heldAt}
-use Rattle.run.specs.Run.{Wrote}
+use Rattle.run.specs.Run.{Wrote, services, policies}
 use Rattle.run.specs.Sized.{ConfigFits, CallsFit}
 use Rattle.run.proofs.Matches.{Runs}
+use Rattle.run.proofs.Returns.{Equal, run-equal}
 use Rattle.run.proofs.Writer.{wrote-tells, packetFor, wrote-one, wrote-fits}
 
 -- a start that is accepted, and calls whose records have their figures within their types
@@ -59,3 +60,7 @@ module _ (config : Config) (ports chargers : ℕ) (ports-few : ports ≤ 16) (ch
   -- demand 3, whole
   pub run-demand-3 : Demand3 source
   run-demand-3 = demand-3 source
+
+  -- demand 2 over the whole run: machine and definition are at the same point after every list of calls, and return the same
+  pub run-demand-2 : Equal (services start calls) (policies (started (start .registration)) calls)
+  run-demand-2 = run-equal calls start freshState freshState calls-fit fresh-runs

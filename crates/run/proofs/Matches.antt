@@ -234,7 +234,7 @@ answer-goes g number k p m held before o a r le rf nb eo es e st op =
 
 -- an opening
 
-open-is : (g : Registration) (p : Phase) (m : Memory) → isAt (standOf (standsAt g p m)) ≡ isOpen p
+pub open-is : (g : Registration) (p : Phase) (m : Memory) → isAt (standOf (standsAt g p m)) ≡ isOpen p
 open-is g (Phase.Closed a) m = refl
 open-is g (Phase.Leaving i p f) m = refl
 open-is g (Phase.Switching l old f new) m = refl

@@ -1,17 +1,26 @@
 -- A run of the service: a start and a list of calls, refused ones included, and what it writes.
 use Prim.Native.Nat.{ℕ}
+use mathlib.Core.Bool.{cond}
 use mathlib.Core.List.{List, [], _∷_}
 use mathlib.Core.Logic.{_⊎_}
 use mathlib.Core.Path.{_≡_}
+use lib.Dec.{eqb}
+use Rattle.power_policy_interface.specs.declared.psu.Result.{Result}
 use Rattle.display.specs.declared.packet.EventPacket.{EventPacket}
 use Rattle.display.specs.declared.packet.Packet.{Packet}
 use Rattle.display.specs.declared.packet.Picture.{Picture}
 use Rattle.send.specs.Send.{sendPacket, sendPicture}
 use Rattle.send.specs.declared.SentPacket.{SentPacket}
 use Rattle.send.specs.declared.SentPicture.{SentPicture}
-use Rattle.service.specs.Service.{openOf, answerOf}
+use Rattle.event.specs.declared.memory.Records.{Records}
+use Rattle.event.specs.declared.phase.OptionOrder.{OptionOrder}
+use Rattle.service.specs.Refusals.{firstRefused, openConditions, answerConditions}
+use Rattle.service.specs.Service.{eventOf, resultOf, openOf, answerOf}
 use Rattle.service.specs.declared.Service.{Service}
-use Rattle.run.specs.Policy.{Call, openEvent, giveAnswer, writePacket, writePicture}
+use Rattle.service.specs.declared.Step.{Step}
+use Rattle.interaction.specs.Interaction.{event}
+use Rattle.interaction.specs.Served.{noAnswer, brings}
+use Rattle.run.specs.Policy.{Call, openEvent, giveAnswer, writePacket, writePicture, Stand, between, at, Policy, isAt, policyAfter}
 
 -- the service after a call
 abbrev pub after : Service → Call → Service
@@ -31,3 +40,33 @@ Writes s writePicture p = (v : Picture) × (sendPicture s ≡ SentPicture.Pictur
 abbrev pub Wrote : Service → List Call → Packet → Type 0
 Wrote s [] p = ⊥
 Wrote s (c ∷ l) p = Writes s c p ⊎ Wrote (after s c) l p
+
+-- what a call of the service returns, and what the definition says that it returns: an order, a close, or the number that turns it back
+
+abbrev pub returned : Service → Call → Step
+returned s (openEvent kind device detail r) = openOf s kind device detail r .step
+returned s (giveAnswer a r) = answerOf s a r .step
+returned s writePacket = Step.Refused 0
+returned s writePicture = Step.Refused 0
+
+abbrev pub answerTo : Stand → ℕ → Records → Step
+answerTo between a r = Step.Refused (firstRefused (answerConditions OptionOrder.None a))
+answerTo (at o k) a r = cond (noAnswer o a) (Step.Refused 24) (brings (k (resultOf a) r))
+
+abbrev pub expected : Policy → Call → Step
+expected p (openEvent kind device detail r) =
+    let g = p .registration in
+    let n : ℕ = firstRefused (openConditions (g .ports) (g .chargers) (isAt (p .stand)) (p .number) kind device detail) in
+    cond (eqb n 0) (cond (eqb kind 5) (Step.Closed Result.Ok) (brings (event g device (eventOf kind detail) (p .state) r))) (Step.Refused n)
+expected p (giveAnswer a r) = answerTo (p .stand) a r
+expected p writePacket = Step.Refused 0
+expected p writePicture = Step.Refused 0
+
+-- after a list of calls
+abbrev pub services : Service → List Call → Service
+services s [] = s
+services s (c ∷ l) = services (after s c) l
+
+abbrev pub policies : Policy → List Call → Policy
+policies p [] = p
+policies p (c ∷ l) = policies (policyAfter p c) l
