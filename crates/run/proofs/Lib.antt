@@ -4,3 +4,4 @@ pub mod Matches
 pub mod Returns
 pub mod Writer
 pub mod Linked
+pub mod Example
