@@ -1,6 +1,6 @@
 // Writes the follower's whole state after each packet of a stream, for comparison with the model in rust/model: a record of 274 bytes, laid
 // out in rust/model/src/record.rs. One follower takes all packets; with an argument each packet has its own, which took the picture
-// of a fresh service before. It ends at a framing error.
+// of a fresh service before. It ends at a framing error, and says nothing of it.
 use display::AvailableConsumer;
 use display::Display;
 use display::OptionAvailableConsumer;
