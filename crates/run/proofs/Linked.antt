@@ -1,4 +1,4 @@
--- Demands 2 and 3 for a run of the service: machine and definition go through it together (Returns.antt), the run is a writer on the link (Writer.antt), and the link's theorem holds for every writer.
+-- Demands 1 to 3 for a run of the service: machine and definition go through it together (Returns.antt), the run is a writer on the link (Writer.antt), and the link's theorem holds for every writer.
 use mathlib.Core.Path.{_≡_, refl, sym, ap, _∙_}
 use mathlib.Core.Bool.{true}
 use mathlib.Core.List.{List, []}
@@ -18,6 +18,7 @@ use Rattle.run.specs.Policy.{Call, started, heldAt}
 use Rattle.run.specs.Run.{Wrote, services, policies}
 use Rattle.run.specs.Sized.{ConfigFits, CallsFit}
 use Rattle.run.proofs.Matches.{Runs}
+use Rattle.run.proofs.Bounds.{Bounded, run-bounded}
 use Rattle.run.proofs.Returns.{Equal, run-equal}
 use Rattle.run.proofs.Writer.{wrote-tells, packetFor, wrote-one, wrote-fits}
 
@@ -64,3 +65,7 @@ module _ (config : Config) (ports chargers : ℕ) (ports-few : ports ≤ 16) (ch
   -- demand 2 over the whole run: machine and definition are at the same point after every list of calls, and return the same
   pub run-demand-2 : Equal (services start calls) (policies (started (start .registration)) calls)
   run-demand-2 = run-equal calls start freshState freshState calls-fit fresh-runs
+
+  -- demand 1 over the whole run: every event accepted after these calls closes after at most 3 + 4 × chargers orders
+  pub run-demand-1 : Bounded (services start calls)
+  run-demand-1 = run-bounded calls start freshState freshState calls-fit fresh-runs
