@@ -31,10 +31,13 @@ use Rattle.follower.specs.Follower.{fresh}
 use Rattle.follower.specs.declared.Shown.{Shown}
 use Rattle.wire.specs.Read.{readPacket}
 use Rattle.wire.specs.declared.packet.ReadPacket.{ReadPacket}
-use Rattle.link.specs.Takes.{takes, Met, numberIn}
+use Rattle.link.specs.Source.{Source}
+use Rattle.link.specs.Takes.{takes, Met, numberIn, Handed, copy, AllHanded, Shows}
 use Rattle.link.proofs.Lists.{one-packet}
 use Rattle.run.specs.Policy.{Call, openEvent, giveAnswer, writePacket, writePicture, started, heldAt}
-use Rattle.run.specs.Run.{services}
+use Rattle.run.specs.Run.{services, Wrote}
+use Rattle.run.specs.Sized.{RecordsFit, CallsFit}
+use Rattle.run.proofs.Linked.{source, run-demand-3}
 
 abbrev offer : ℕ → ℕ → ConsumerPowerCapability
 offer v a =
@@ -159,3 +162,77 @@ nothing-above p m =
     (λ o. ⊎-elim (λ e. omega (arith, numbered e reads-two)) (λ q. ⊎-elim (λ e. omega (arith, numbered e reads-one)) (λ z. absurd z) q) o)
     n)
     m
+
+-- so the theorem applies: the run with its writes, and the takes as copies of them
+
+abbrev calls : List Call
+calls =
+    writePicture
+    ∷ openEvent 1 0 0 first
+    ∷ giveAnswer 0 first
+    ∷ giveAnswer 0 first
+    ∷ writePacket
+    ∷ openEvent 1 1 0 second
+    ∷ giveAnswer 0 second
+    ∷ giveAnswer 0 second
+    ∷ giveAnswer 0 second
+    ∷ writePacket
+    ∷ openEvent 2 0 0 third
+    ∷ giveAnswer 7 third
+    ∷ writePacket
+    ∷ writePicture
+    ∷ openEvent 2 0 0 third
+    ∷ giveAnswer 0 third
+    ∷ writePacket
+    ∷ []
+
+pub first-fits : RecordsFit first
+first-fits zero l = (refl, tt)
+first-fits (suc zero) l = (tt, tt)
+first-fits (suc (suc p)) l = (tt, tt)
+
+pub second-fits : RecordsFit second
+second-fits zero l = (refl, tt)
+second-fits (suc zero) l = (refl, tt)
+second-fits (suc (suc p)) l = (tt, tt)
+
+pub third-fits : RecordsFit third
+third-fits zero l = (tt, refl)
+third-fits (suc zero) l = (refl, tt)
+third-fits (suc (suc p)) l = (tt, tt)
+
+pub calls-fit : CallsFit calls
+calls-fit = (
+  tt,
+  (first-fits, (first-fits, (first-fits, (tt, (second-fits, (second-fits, (second-fits, (second-fits, (tt, (third-fits, (third-fits, (tt, (tt, (third-fits, (third-fits, (tt, tt)))))))))))))))),
+)
+
+abbrev writer : Source
+writer = source rustDefault 2 0 (omega arith) (omega arith) (record { unlimited = refl; limited = refl }) calls calls-fit
+
+wrote-start : Wrote start calls (Packet.Picture (pictureOf start))
+wrote-start = inl (pictureOf start, refl, refl)
+
+wrote-one : Wrote start calls (Packet.Event (packetOf (services start one)))
+wrote-one = inr (inr (inr (inr (inl (packetOf (services start one), refl, refl)))))
+
+wrote-two : Wrote start calls (Packet.Event (packetOf (services start two)))
+wrote-two = inr (inr (inr (inr (inr (inr (inr (inr (inr (inl (packetOf (services start two), refl, refl))))))))))
+
+pub handed : AllHanded writer mixed
+handed = (
+  copy (Packet.Picture (pictureOf start)) wrote-start refl,
+  (
+    copy (Packet.Event (packetOf (services start two))) wrote-two refl,
+    (copy (Packet.Event (packetOf (services start two))) wrote-two refl, (copy (Packet.Event (packetOf (services start one))) wrote-one refl, tt)),
+  ),
+)
+
+shows-start : takes fresh (picture [] ∷ []) .shown ≡ Shown.Picture (pictureOf start)
+unfolding bytes.capabilityBytes bytes.contractBytes bytes.noticeBytes bytes.eventBytes bytes.consumerBytes bytes.portsBytes bytes.pictureBytes number.leb128 number.readNumber parser.field parser.number wire.capability wire.consumer wire.unconstrained wire.consumerDisconnected wire.consumerConnected wire.providerDisconnected wire.providerConnected wire.unconstrainedChanged wire.noticeOf wire.notice wire.eventNotices wire.eventAfter wire.event wire.pictureAfter wire.picture wire.packetOf wire.packet held.noneHeld held.greatest held.above follower.inTurn policy.updateUnconstrainedState policy.attachCharger policy.postConsumerConnected policy.detachCharger policy.disconnectChargers policy.disconnectCurrent policy.connectConsumer policy.connectNewConsumer policy.connectBest policy.updateCurrentConsumer policy.postProviderConnected policy.provide policy.connectProvider policy.removeProvider policy.postProviderRemoved policy.processPsuEvent
+shows-start = refl
+
+pub by-theorem : Shows (takes fresh mixed) 2 (writer .held 2)
+by-theorem =
+    run-demand-3 rustDefault 2 0 (omega arith) (omega arith) (record { unlimited = refl; limited = refl }) calls calls-fit .b (picture [] ∷ []) later 0 2 (pictureOf start .display) handed
+    shows-start (omega arith) comes nothing-above

@@ -28,7 +28,7 @@ module _ (config : Config) (ports chargers : ℕ) (ports-few : ports ≤ 16) (ch
   abbrev pub start : Service
   start = freshService config ports chargers
 
-  fresh-runs : Runs start freshState freshState
+  pub fresh-runs : Runs start freshState freshState
   fresh-runs = record {
     limits = record { chargers = chargers-few; ports = ports-few; config = config-fits };
     number = omega arith;
@@ -44,7 +44,7 @@ module _ (config : Config) (ports chargers : ℕ) (ports-few : ports ≤ 16) (ch
   }
 
   -- what is held comes from the event's definition, fed with the start and the calls; what is written from the machine
-  pub source : Source
+  abbrev pub source : Source
   source = record {
     held = heldAt (started (start .registration)) calls;
     Written = Wrote start calls;
