@@ -23,8 +23,8 @@ use Rattle.follower.specs.declared.Shown.{Shown}
 use Rattle.follower.specs.declared.held.Held.{Held}
 use Rattle.follower.proofs.Kept.{fresh-kept}
 use Rattle.link.specs.Link.{after, Comes, NothingAbove, NoLower, Demand3}
-use Rattle.link.specs.Source.{Source}
-use Rattle.link.specs.Takes.{takenRead, take, takes, Handed, copy, turned-back, AllHanded, Met, numberIn, Lost, Shows}
+use Rattle.link.specs.Source.{Source, numberIn}
+use Rattle.link.specs.Takes.{takenRead, take, takes, Handed, copy, turned-back, AllHanded, Met, Lost, Shows}
 use Rattle.link.proofs.Places.{Has, has-bounds}
 use Rattle.link.proofs.Turns.{Known, Upper, Reached, Waits, GoodAt, ShownFrom}
 use Rattle.link.proofs.OneTake.{Kept, event-stays, picture-stays}
@@ -74,11 +74,11 @@ module _ (source : Source) where
 
   -- (a)
 
-  shown-right : (f : Follower) (S : EventPacket → Type 0) (x : Shown) (h : Held) → f .shown ≡ x → GoodAt source S x h → Lost f ⊎ ((n : ℕ) × Shows f n (source .held n))
+  shown-right : (f : Follower) (S : EventPacket → Type 0) (x : Shown) (h : Held) → f .shown ≡ x → GoodAt source S x h → Lost f ⊎ ((n : ℕ) × source .Closed n × Shows f n (source .held n))
   shown-right f S (Shown.Lost floor) h e g = inl (floor, e)
-  shown-right f S (Shown.Picture s) h e g = inr (s .number, e ∙ ap (λ (d : Display). Shown.Picture (record { number = s .number; display = d })) (g .0))
+  shown-right f S (Shown.Picture s) h e g = inr (s .number, g .3, e ∙ ap (λ (d : Display). Shown.Picture (record { number = s .number; display = d })) (g .0))
 
-  demand-a : (l : List (List ℕ)) → AllHanded source l → Lost (after source l) ⊎ ((n : ℕ) × Shows (after source l) n (source .held n))
+  demand-a : (l : List (List ℕ)) → AllHanded source l → Lost (after source l) ⊎ ((n : ℕ) × source .Closed n × Shows (after source l) n (source .held n))
   demand-a l h =
       let f = after source l in
       shown-right f (In l) (f .shown) (f .held) refl (kept-after l h .good)

@@ -25,7 +25,7 @@ use Rattle.follower.specs.declared.Shown.{Shown}
 use Rattle.follower.specs.declared.held.Held.{Held}
 use Rattle.follower.proofs.Kept.{fresh-kept}
 use Rattle.link.specs.Source.{Source}
-use Rattle.link.specs.Takes.{takenRead, take, takes, Handed, copy, turned-back, AllHanded, Met, numberIn}
+use Rattle.link.specs.Takes.{takenRead, take, takes, Handed, copy, turned-back, AllHanded, Met}
 use Rattle.link.proofs.Places.{all-map}
 use Rattle.link.proofs.Turns.{Known, GoodAt, ShownFrom}
 use Rattle.link.proofs.OneTake.{With, Kept, event-kept, picture-kept, event-stays, picture-stays}
@@ -85,6 +85,7 @@ good-same source S R to from (Shown.Picture s) h g = (
   g .0,
   all-map (Known source S) (Known source R) h (λ e q. (q .0, to e (q .1))) (g .1),
   λ e k l. g .2 e (from e k) l,
+  g .3,
 )
 
 pub kept-same : (source : Source) (S R : EventPacket → Type 0) → ((e : EventPacket) → S e → R e) → ((e : EventPacket) → R e → S e) →

@@ -35,6 +35,7 @@ module _ (source : Source) (Seen : EventPacket → Type 0) where
     g .0,
     all-map (Known source Seen) (Known source (With Seen e)) h (λ x q. (q .0, inl (q .1))) (g .1),
     λ x m l. ⊎-elim (λ k. g .2 x k l) (λ q. at x q l) m,
+    g .3,
   )
     where
       at : (x : EventPacket) → x ≡ e → s .number < x .number → Has h (x .number)
@@ -79,7 +80,7 @@ module _ (source : Source) (Seen : EventPacket → Type 0) where
       settled-good source (With Seen e) s (placed h e) (event-within (s .number) h e l m r w) (g .0)
       (all-put (Known source (With Seen e)) h (e .number % 8) e (mod8 (e .number)) (w .0) (inr (wr, inr refl))
       (all-map (Known source Seen) (Known source (With Seen e)) h (λ x q. (q .0, inl (q .1))) (g .1)))
-      (λ x k lx. waits x k lx (eqb (x .number) (e .number)) refl)
+      (λ x k lx. waits x k lx (eqb (x .number) (e .number)) refl) (g .3)
     where
       here : Has (placed h e) (e .number)
       here = ap (λ (z : EventPacket). z .number) (placed-here h e (w .0))
@@ -121,7 +122,7 @@ module _ (source : Source) (Seen : EventPacket → Type 0) where
       go false e =
           let l : s .number < p .number = leb-false _ _ e in
           settled-good source Seen p (above (p .number) 8 h) (picture-within (s .number) (p .number) h l w) (source .picture p wr)
-          (all-above (Known source Seen) (p .number) h (w .0) (g .1)) (waits l)
+          (all-above (Known source Seen) (p .number) h (w .0) (g .1)) (waits l) (source .closed (Packet.Picture p) wr)
 
   lost-picture-good : (floor : ℕ) (h : Held) (p : Picture) → source .Written (Packet.Picture p) → GoodAt source Seen (Shown.Lost floor) h →
       Good source Seen (cond (ltb (p .number) floor) (record { shown = Shown.Lost floor; held = h }) (showing p nothing))
@@ -133,6 +134,7 @@ module _ (source : Source) (Seen : EventPacket → Type 0) where
         source .picture p wr,
         all-nothing (Known source Seen),
         λ x k l. absurd (omega (arith, l, g .0 x k, ltb-false (p .number) floor t)),
+        source .closed (Packet.Picture p) wr,
       )
 
   -- a follower of these packets

@@ -43,7 +43,7 @@ module _ (source : Source) (Seen : EventPacket → Type 0) where
 
   abbrev pub GoodAt : Shown → Held → Type 0
   GoodAt (Shown.Lost floor) h = Upper floor × ((floor ≡ 0) ⊎ Reached floor)
-  GoodAt (Shown.Picture s) h = (s .display ≡ source .held (s .number)) × AllHeld Known h × Waits (s .number) h
+  GoodAt (Shown.Picture s) h = (s .display ≡ source .held (s .number)) × AllHeld Known h × Waits (s .number) h × source .Closed (s .number)
 
   abbrev pub Good : Follower → Type 0
   Good f = GoodAt (f .shown) (f .held)
@@ -64,15 +64,19 @@ module _ (source : Source) (Seen : EventPacket → Type 0) where
       ∙ source .event n (heldFor h (n + 1)) (all-has Known h (n + 1) (omega arith) a has .0) (has ∙ e) z
       ∙ ap (λ (x : ℕ). source .held x) (sym e)
 
+  closed-on : (n : ℕ) (h : Held) → AllHeld Known h → Has h (n + 1) → source .Closed (n + 1)
+  closed-on n h a has =
+      subst (λ z. source .Closed z) has (source .closed (Packet.Event (heldFor h (n + 1))) (all-has Known h (n + 1) (omega arith) a has .0))
+
   pub turn-good : (k floor n : ℕ) (d : Display) (h : Held) (hi : ℕ) → hi ≤ n + 8 → Within (n + 1) hi h → d ≡ source .held n → AllHeld Known h → Waits n h →
-      Upper floor → (Has h (n + 1) → Reached floor) → Good (inTurn k floor n d h)
+      source .Closed n → Upper floor → (Has h (n + 1) → Reached floor) → Good (inTurn k floor n d h)
   unfolding inTurn
-  turn-good zero floor n d h hi lh w r a u up at = (r, a, u)
-  turn-good (suc k) floor n d h hi lh w r a u up at =
+  turn-good zero floor n d h hi lh w r a u cl up at = (r, a, u, cl)
+  turn-good (suc k) floor n d h hi lh w r a u cl up at =
       go (holds h (n + 1)) refl (eqb (heldFor h (n + 1) .answer) 0) refl
       (λ has z. turn-good k floor (n + 1) (allApplied (heldFor h (n + 1) .notices) d) (dropped h (n + 1)) hi (omega (arith, lh))
       (again w) (right-on n d h r a has z)
-      (all-put Known h ((n + 1) % 8) none (mod8 (n + 1)) (w .0) (inl refl) a) (waits-on n hi h lh w u) up (λ q. at has))
+      (all-put Known h ((n + 1) % 8) none (mod8 (n + 1)) (w .0) (inl refl) a) (waits-on n hi h lh w u) (closed-on n h a has) up (λ q. at has))
     where
       again : Within (n + 1) hi h → Within (n + 1 + 1) hi (dropped h (n + 1))
       again v =
@@ -84,8 +88,8 @@ module _ (source : Source) (Seen : EventPacket → Type 0) where
           Good (cond x (cond y (inTurn k floor (n + 1) (allApplied (heldFor h (n + 1) .notices) d) (dropped h (n + 1))) (lost floor)) (showing (follower.at n d) h))
       go true ex true ey ih = ih (eqb-true _ _ ex) (eqb-true _ _ ey)
       go true ex false ey ih = (up, inr (at (eqb-true _ _ ex)))
-      go false ex true ey ih = (r, a, u)
-      go false ex false ey ih = (r, a, u)
+      go false ex true ey ih = (r, a, u, cl)
+      go false ex false ey ih = (r, a, u, cl)
 
   -- everything met is at most the greatest of what is shown and held
   pub upper-held : (m n : ℕ) (h : Held) → n ≤ m → Waits n h → Upper (greatest m 8 h)
@@ -107,9 +111,9 @@ module _ (source : Source) (Seen : EventPacket → Type 0) where
           (λ q. (packetAt h i, q .1, sym e)) (a i li)
 
   pub settled-good : (s : Picture) (h : Held) → Within (s .number + 1) (s .number + 8) h → s .display ≡ source .held (s .number) → AllHeld Known h → Waits (s .number) h →
-      Good (settled s h)
-  settled-good s h w r a u =
-      turn-good 8 (greatest (s .number) 8 h) (s .number) (s .display) h (s .number + 8) (omega arith) w r a u
+      source .Closed (s .number) → Good (settled s h)
+  settled-good s h w r a u cl =
+      turn-good 8 (greatest (s .number) 8 h) (s .number) (s .display) h (s .number + 8) (omega arith) w r a u cl
       (upper-held (s .number) (s .number) h (omega arith) u)
       (λ has. reached-held (s .number) h a (omega (arith, has, greatest-held (s .number) 8 h ((s .number + 1) % 8) (mod8 (s .number + 1)))))
 

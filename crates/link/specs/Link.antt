@@ -10,8 +10,8 @@ use Rattle.display.specs.declared.packet.Picture.{Picture}
 use Rattle.wire.specs.Bytes.{packetBytes}
 use Rattle.follower.specs.Follower.{fresh}
 use Rattle.follower.specs.declared.Follower.{Follower}
-use Rattle.link.specs.Source.{Source}
-use Rattle.link.specs.Takes.{takes, AllHanded, Met, numberIn, Lost, Shows}
+use Rattle.link.specs.Source.{Source, numberIn}
+use Rattle.link.specs.Takes.{takes, AllHanded, Met, Lost, Shows}
 
 module _ (source : Source) where
   -- after these takes
@@ -31,8 +31,8 @@ module _ (source : Source) where
   NoLower n l = (e : EventPacket) → Met (Packet.Event e) l → e .number ≤ n
 
   pub record Demand3 : Type 0 where
-    -- the follower says lost, or shows an n with exactly what was held there
-    pub a : (l : List (List ℕ)) → AllHanded source l → Lost (after l) ⊎ ((n : ℕ) × Shows (after l) n (source .held n))
+    -- the follower says lost, or shows the n of an event that has closed (0: the start), with exactly what was held there
+    pub a : (l : List (List ℕ)) → AllHanded source l → Lost (after l) ⊎ ((n : ℕ) × source .Closed n × Shows (after l) n (source .held n))
     -- if it shows n and then each event packet n + 1 to n + k comes, in any order, k ≤ 8, all without error, and nothing above n + k is
     -- anywhere among the takes, it shows n + k
     pub b :

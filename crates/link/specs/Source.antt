@@ -9,9 +9,17 @@ use Rattle.display.specs.declared.packet.Packet.{Packet}
 use Rattle.display.specs.declared.packet.Picture.{Picture}
 use Rattle.wire.specs.WellFormed.{wellFormed}
 
+abbrev pub numberIn : Packet → ℕ
+numberIn (Packet.Event e) = e .number
+numberIn (Packet.Picture p) = p .number
+
 pub record Source : Type 1 where
   pub held : ℕ → Display
+  -- event n has closed (0: the start)
+  pub Closed : ℕ → Type 0
   pub Written : Packet → Type 0
+  -- what is written is of such a number
+  pub closed : (p : Packet) → Written p → Closed (numberIn p)
   -- each has its fields within what document 01 lays out
   pub fits : (p : Packet) → Written p → wellFormed p ≡ true
   -- a picture shows what is held at its number

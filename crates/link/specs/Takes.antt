@@ -43,10 +43,6 @@ abbrev pub Met : Packet → List (List ℕ) → Type 0
 Met p [] = ⊥
 Met p (b ∷ l) = (readPacket b ≡ ReadPacket.Packet p) ⊎ Met p l
 
-abbrev pub numberIn : Packet → ℕ
-numberIn (Packet.Event e) = e .number
-numberIn (Packet.Picture p) = p .number
-
 -- what is shown
 
 abbrev pub Lost : Follower → Type 0

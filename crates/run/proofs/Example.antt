@@ -31,8 +31,8 @@ use Rattle.follower.specs.Follower.{fresh}
 use Rattle.follower.specs.declared.Shown.{Shown}
 use Rattle.wire.specs.Read.{readPacket}
 use Rattle.wire.specs.declared.packet.ReadPacket.{ReadPacket}
-use Rattle.link.specs.Source.{Source}
-use Rattle.link.specs.Takes.{takes, Met, numberIn, Handed, copy, AllHanded, Shows}
+use Rattle.link.specs.Source.{Source, numberIn}
+use Rattle.link.specs.Takes.{takes, Met, Handed, copy, AllHanded, Shows}
 use Rattle.link.proofs.Lists.{one-packet}
 use Rattle.run.specs.Policy.{Call, openEvent, giveAnswer, writePacket, writePicture, started, heldAt}
 use Rattle.run.specs.Run.{services, Wrote}

@@ -20,7 +20,7 @@ use Rattle.run.specs.Sized.{ConfigFits, CallsFit}
 use Rattle.run.proofs.Matches.{Runs}
 use Rattle.run.proofs.Bounds.{Bounded, run-bounded}
 use Rattle.run.proofs.Returns.{Equal, run-equal}
-use Rattle.run.proofs.Writer.{wrote-tells, packetFor, wrote-one, wrote-fits}
+use Rattle.run.proofs.Writer.{wrote-tells, packetFor, wrote-one, wrote-fits, wrote-closed}
 
 -- a start that is accepted, and calls whose records have their figures within their types
 module _ (config : Config) (ports chargers : ℕ) (ports-few : ports ≤ 16) (chargers-few : chargers ≤ 8) (config-fits : ConfigFits config) (calls : List Call)
@@ -47,6 +47,8 @@ module _ (config : Config) (ports chargers : ℕ) (ports-few : ports ≤ 16) (ch
   abbrev pub source : Source
   source = record {
     held = heldAt (started (start .registration)) calls;
+    Closed = λ n. n ≤ policies (started (start .registration)) calls .number;
+    closed = λ p w. wrote-closed calls start freshState freshState p calls-fit fresh-runs w;
     Written = Wrote start calls;
     fits = λ p w. wrote-fits calls start freshState freshState p calls-fit fresh-runs w;
     picture = λ v w.

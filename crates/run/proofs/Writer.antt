@@ -37,7 +37,8 @@ use Rattle.wire.specs.WellFormed.{noticesFit, consumerFits, eventFits, pictureF
 use Rattle.interaction.specs.Machine.{listed}
 use Rattle.interaction.proofs.Serves.{service}
 use Rattle.run.specs.Policy.{Call, openEvent, giveAnswer, writePacket, writePicture, Policy, policyAfter, heldAt}
-use Rattle.run.specs.Run.{after, Writes, Wrote}
+use Rattle.link.specs.Source.{numberIn}
+use Rattle.run.specs.Run.{after, Writes, Wrote, policies}
 use Rattle.run.specs.Sized.{CallsFit}
 use Rattle.run.proofs.Sized.{both}
 use Rattle.run.proofs.Matches.{policyOf, Closed, StateAt, Runs, Moved, stays, asks, closes, Went, goes}
@@ -379,4 +380,30 @@ pub wrote-fits : (l : List Call) (s : Service) (held before : InternalState) (p 
 wrote-fits (c ∷ l) s held before p cf x w =
     ⊎-elim (λ z. writes-fits s held before c p x z)
     (λ z. let t = goes s held before c (cf .0) x in wrote-fits l (after s c) (t .heldₜ) (t .beforeₜ) p (cf .1) (t .runs) z)
+    w
+
+-- what is written is of an event that has closed, or of the start
+
+grows : (l : List Call) (s : Service) (held before : InternalState) → CallsFit l → Runs s held before → s .number ≤ policies (policyOf s held) l .number
+grows [] s held before cf x = omega arith
+grows (c ∷ l) s held before cf x =
+    let t = goes s held before c (cf .0) x in
+    let n : s .number ≤ after s c .number = moved-number (λ k. displayOf held) s (after s c) held (t .heldₜ) before (t .beforeₜ) (t .moves) in
+    let m : after s c .number ≤ policies (policyOf (after s c) (t .heldₜ)) l .number = grows l (after s c) (t .heldₜ) (t .beforeₜ) (cf .1) (t .runs) in
+    subst (λ z. s .number ≤ policies z l .number) (sym (t .same)) (omega (arith, n, m))
+
+writes-number : (s : Service) (held : InternalState) (c : Call) (p : Packet) → Writes s c p → numberIn p ≡ s .number
+writes-number s held (openEvent kind device detail r) p w = absurd w
+writes-number s held (giveAnswer a r) p w = absurd w
+writes-number s held writePacket p w = ap numberIn (w .2 ∙ ap Packet.Event (sent (λ n. displayOf held) s (w .0) (w .1) .1))
+writes-number s held writePicture p w = ap numberIn (w .2 ∙ ap Packet.Picture (shown (λ n. displayOf held) s (w .0) (w .1) .1))
+
+pub wrote-closed : (l : List Call) (s : Service) (held before : InternalState) (p : Packet) → CallsFit l → Runs s held before → Wrote s l p →
+    numberIn p ≤ policies (policyOf s held) l .number
+wrote-closed (c ∷ l) s held before p cf x w =
+    ⊎-elim
+    (λ z. let e : numberIn p ≡ s .number = writes-number s held c p z in omega (arith, e, grows (c ∷ l) s held before cf x))
+    (λ z.
+    let t = goes s held before c (cf .0) x in
+    subst (λ q. numberIn p ≤ policies q l .number) (sym (t .same)) (wrote-closed l (after s c) (t .heldₜ) (t .beforeₜ) p (cf .1) (t .runs) z))
     w
