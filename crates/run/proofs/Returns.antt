@@ -30,9 +30,9 @@ use Rattle.interaction.specs.Machine.{heldOf, rest, standsAt, standsFor}
 use Rattle.interaction.specs.Served.{noAnswer, brings}
 use Rattle.interaction.proofs.Follows.{opened, leaving-answered, switching-answered, connecting-answered, providing-answered}
 use Rattle.interaction.proofs.Serves.{service, moved-brings}
-use Rattle.run.specs.Policy.{Call, openEvent, giveAnswer, writePacket, writePicture, Policy, isAt, policyAfter}
-use Rattle.run.specs.Run.{after, returned, expected, answerTo, services, policies}
-use Rattle.run.specs.Sized.{CallFits, CallsFit}
+use Rattle.run.specs.Policy.{Call, Policy, isAt}
+use Rattle.run.specs.Run.{after, openTo, answerTo, services, policies}
+use Rattle.run.specs.Sized.{CallsFit}
 use Rattle.run.proofs.Matches.{standOf, policyOf, open-is, Closed, StateAt, Runs, Went, goes}
 
 closed-step : (b : Bool) (x : Stepped) (s : Service) → cond (eqb (cond b 24 26) 0) x (refused (cond b 24 26) s) .step ≡ Step.Refused (cond b 24 26)
@@ -69,7 +69,7 @@ module _ (g : Registration) (number k : ℕ) (kind device detail : ℕ) (r : Rec
   says waits z = cond (eqb (conditions waits) 0) (cond (eqb kind 5) (Step.Closed Result.Ok) z) (Step.Refused (conditions waits))
 
   open-returns : (p : Phase) (m : Memory) (held : InternalState) → (isOpen p ≡ false → m .state ≡ held) →
-      openOf (service g number k p m) kind device detail r .step ≡ expected (policyOf (service g number k p m) held) (openEvent kind device detail r)
+      openOf (service g number k p m) kind device detail r .step ≡ openTo (policyOf (service g number k p m) held) kind device detail r
   open-returns p m held same =
       step-of (eqb (conditions (isOpen p)) 0) (eqb kind 5) (conditions (isOpen p)) (service g number k p m) (openedOf (service g number k p m) device (eventOf kind detail) r)
       ∙ (go (isOpen p) refl ∙ ap (λ w. says w (brings (event g device (eventOf kind detail) held r))) (sym (open-is g p m)))
@@ -101,33 +101,33 @@ closed-same g number k (Phase.Switching l old f new) m held before c o = absurd 
 closed-same g number k (Phase.Connecting s new) m held before c o = absurd (eqb-false 0 0 o refl)
 closed-same g number k (Phase.Providing p d) m held before c o = absurd (eqb-false 0 0 o refl)
 
-returns-at : (g : Registration) (number k : ℕ) (p : Phase) (m : Memory) (held before : InternalState) (c : Call) → Runs (service g number k p m) held before →
-    returned (service g number k p m) c ≡ expected (policyOf (service g number k p m) held) c
-returns-at g number k p m held before writePacket x = refl
-returns-at g number k p m held before writePicture x = refl
-returns-at g number k p m held before (openEvent kind device detail r) x =
-    open-returns g number k kind device detail r p m held (λ o. closed-same g number k p m held before (x .state) o)
-returns-at g number k (Phase.Closed a) m held before (giveAnswer n r) x = closed-step (unknownAnswer OptionOrder.None n) _ (service g number k (Phase.Closed a) m)
-returns-at g number k (Phase.Leaving i p f) m held before (giveAnswer n r) x =
+answers-at : (g : Registration) (number k : ℕ) (p : Phase) (m : Memory) (held before : InternalState) (n : ℕ) (r : Records) → Runs (service g number k p m) held before →
+    answerOf (service g number k p m) n r .step ≡ answerTo (standOf (standsAt g p m)) n r
+answers-at g number k (Phase.Closed a) m held before n r x = closed-step (unknownAnswer OptionOrder.None n) _ (service g number k (Phase.Closed a) m)
+answers-at g number k (Phase.Leaving i p f) m held before n r x =
     answer-returns g number k (Phase.Leaving i p f) m (Order.Detach i) n r refl refl (leaving-answered g i p f m (x .limits .chargers) (x .state .fits) (resultOf n) r)
-returns-at g number k (Phase.Switching l old f new) m held before (giveAnswer n r) x =
+answers-at g number k (Phase.Switching l old f new) m held before n r x =
     answer-returns g number k (Phase.Switching l old f new) m (switchOrder l old) n r refl refl (switching-answered g l old f new m (x .limits .chargers) (x .state .fits) (resultOf n) r)
-returns-at g number k (Phase.Connecting s new) m held before (giveAnswer n r) x =
+answers-at g number k (Phase.Connecting s new) m held before n r x =
     answer-returns g number k (Phase.Connecting s new) m (connectOrder s new) n r refl refl (connecting-answered g s new m (x .limits .chargers) (x .state .fits) (resultOf n) r)
-returns-at g number k (Phase.Providing p d) m held before (giveAnswer n r) x =
+answers-at g number k (Phase.Providing p d) m held before n r x =
     answer-returns g number k (Phase.Providing p d) m (Order.ConnectProvider p d) n r refl refl (providing-answered g p d m (x .state .fits) (resultOf n) r)
 
--- after any list of calls the machine is where the definition is, and the next call returns what the definition says
+-- after any list of calls the machine is where the definition is, and the next opening or answer returns what the definition says
 pub record Equal (s : Service) (p : Policy) : Type 0 where
   pub held : InternalState
   pub same : p ≡ policyOf s held
-  pub returns : (c : Call) → CallFits c → returned s c ≡ expected p c
+  pub opening : (kind device detail : ℕ) (r : Records) → openOf s kind device detail r .step ≡ openTo p kind device detail r
+  pub answering : (a : ℕ) (r : Records) → answerOf s a r .step ≡ answerTo (p .stand) a r
 
 pub run-equal : (l : List Call) (s : Service) (held before : InternalState) → CallsFit l → Runs s held before → Equal (services s l) (policies (policyOf s held) l)
 run-equal [] s held before cf x = record {
   held = held;
   same = refl;
-  returns = λ c f. returns-at (s .registration) (s .number) (s .orders) (s .phase) (s .memory) held before c x;
+  opening = λ kind device detail r.
+      open-returns (s .registration) (s .number) (s .orders) kind device detail r (s .phase) (s .memory) held
+      (λ o. closed-same (s .registration) (s .number) (s .orders) (s .phase) (s .memory) held before (x .state) o);
+  answering = λ a r. answers-at (s .registration) (s .number) (s .orders) (s .phase) (s .memory) held before a r x;
 }
 run-equal (c ∷ l) s held before cf x =
     let t = goes s held before c (cf .0) x in

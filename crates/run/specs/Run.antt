@@ -41,26 +41,17 @@ abbrev pub Wrote : Service → List Call → Packet → Type 0
 Wrote s [] p = ⊥
 Wrote s (c ∷ l) p = Writes s c p ⊎ Wrote (after s c) l p
 
--- what a call of the service returns, and what the definition says that it returns: an order, a close, or the number that turns it back
+-- what the definition says that an opening and an answer return: an order, a close, or the number that turns it back
 
-abbrev pub returned : Service → Call → Step
-returned s (openEvent kind device detail r) = openOf s kind device detail r .step
-returned s (giveAnswer a r) = answerOf s a r .step
-returned s writePacket = Step.Refused 0
-returned s writePicture = Step.Refused 0
+abbrev pub openTo : Policy → ℕ → ℕ → ℕ → Records → Step
+openTo p kind device detail r =
+    let g = p .registration in
+    let n : ℕ = firstRefused (openConditions (g .ports) (g .chargers) (isAt (p .stand)) (p .number) kind device detail) in
+    cond (eqb n 0) (cond (eqb kind 5) (Step.Closed Result.Ok) (brings (event g device (eventOf kind detail) (p .state) r))) (Step.Refused n)
 
 abbrev pub answerTo : Stand → ℕ → Records → Step
 answerTo between a r = Step.Refused (firstRefused (answerConditions OptionOrder.None a))
 answerTo (at o k) a r = cond (noAnswer o a) (Step.Refused 24) (brings (k (resultOf a) r))
-
-abbrev pub expected : Policy → Call → Step
-expected p (openEvent kind device detail r) =
-    let g = p .registration in
-    let n : ℕ = firstRefused (openConditions (g .ports) (g .chargers) (isAt (p .stand)) (p .number) kind device detail) in
-    cond (eqb n 0) (cond (eqb kind 5) (Step.Closed Result.Ok) (brings (event g device (eventOf kind detail) (p .state) r))) (Step.Refused n)
-expected p (giveAnswer a r) = answerTo (p .stand) a r
-expected p writePacket = Step.Refused 0
-expected p writePicture = Step.Refused 0
 
 -- after a list of calls
 abbrev pub services : Service → List Call → Service
