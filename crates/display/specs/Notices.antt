@@ -21,7 +21,7 @@ listed n = take (n .count) (places n)
 abbrev pub lengthOf : Notices → ℕ
 lengthOf n = length (listed n)
 
--- what stands in a place past the count, and what an element of an array that is not there is read as
+-- what stands in a place past the count
 abbrev pub filler : Event
 filler = Event.ConsumerDisconnected 0 (record { reason = OptionDisconnectReason.None })
 

@@ -1,4 +1,5 @@
--- The edges of document 01 as theorems about the definitions that the contracts cite: the record is the table, `edges` its proof.
+-- The edges of document 01 as theorems about the definitions: of the contracts, of the event (which the service follows, crate interaction) and of
+-- `follow`. The record is the table, `edges` its proof.
 use mathlib.Core.Path.{_≡_, refl, ap, sym, subst}
 use mathlib.Core.Bool.{Bool, true, false, cond}
 use mathlib.Core.List.{List, [], _∷_, _++_}
@@ -9,6 +10,9 @@ use Rattle.power_policy_interface.specs.Psu.{attachOf, updateRequestedOf, inval
 use Rattle.power_policy_interface.specs.declared.capability.PowerCapability.{PowerCapability}
 use Rattle.power_policy_interface.specs.declared.capability.OptionConsumerPowerCapability.{OptionConsumerPowerCapability}
 use Rattle.power_policy_interface.specs.declared.capability.OptionProviderPowerCapability.{OptionProviderPowerCapability}
+use Rattle.power_policy_interface.specs.declared.capability.DisconnectReason.{DisconnectReason}
+use Rattle.power_policy_interface.specs.declared.capability.OptionDisconnectReason.{OptionDisconnectReason}
+use Rattle.power_policy_interface.specs.declared.psu.Error.{Error}
 use Rattle.power_policy_interface.specs.declared.psu.PsuState.{PsuState}
 use Rattle.power_policy_interface.specs.declared.psu.StateKind.{StateKind}
 use Rattle.power_policy_interface.specs.declared.psu.State.{State}
@@ -51,7 +55,7 @@ use Rattle.event.specs.declared.memory.Registration.{Registration}
 use Rattle.event.specs.declared.phase.Order.{Order}
 use Rattle.service.specs.declared.Step.{Step}
 use Rattle.interaction.specs.Action.{Interaction, done}
-use Rattle.interaction.specs.Interaction.{updateUnconstrainedState, connectBest, updateCurrentConsumer, postProviderConnected, provide, connectProvider, removeProvider, postProviderRemoved, processPsuEvent, event}
+use Rattle.interaction.specs.Interaction.{updateUnconstrainedState, connectNewConsumer, disconnectCurrent, disconnectChargers, connectConsumer, connectBest, updateCurrentConsumer, postProviderConnected, provide, connectProvider, removeProvider, postProviderRemoved, processPsuEvent, event}
 use Rattle.interaction.specs.Served.{fedBy, brings}
 
 abbrev mW : ℕ → ℕ → ℕ
@@ -67,6 +71,14 @@ offer v a =
     record {
       capability = record { «voltage_mv» = v; «current_ma» = a };
       flags = record { «unconstrained_power» = false; «psu_type» = OptionPsuType.None };
+    }
+
+-- an offer that is unconstrained
+abbrev unlimited : ℕ → ℕ → ConsumerPowerCapability
+unlimited v a =
+    record {
+      capability = record { «voltage_mv» = v; «current_ma» = a };
+      flags = record { «unconstrained_power» = true; «psu_type» = OptionPsuType.None };
     }
 
 abbrev contract : ℕ → ℕ → ProviderPowerCapability
@@ -96,6 +108,11 @@ rows l = record { psus = l; chargers = [] }
 abbrev tracking : ℕ → PowerState → InternalState
 tracking mask s =
     stateWith OptionAvailableConsumer.None s (record { unconstrained = false; available = 0 }) (record { mask = mask })
+
+-- port 0 is the consumer with this capability, and the figures are these
+abbrev consuming : ConsumerPowerCapability → Bool → ℕ → InternalState
+consuming c u n =
+    stateWith (available 0 c) PowerState.Unlimited (record { unconstrained = u; available = n }) (record { mask = 0 })
 
 -- the event of this port, opened with these records
 abbrev opened : ℕ → ℕ → EventData → InternalState → List State → Interaction
@@ -179,6 +196,28 @@ pub record Edges : Type 0 where
   pub P10-removed : (e : PowerState)
       → opened 5 4 EventData.Detached (tracking 15 e) (nothing ∷ nothing ∷ nothing ∷ nothing ∷ nothing ∷ [])
       ≡ done Result.Ok (record { state = tracking 15 e; notices = [] })
+  -- Mistakes that look like repairs; a Limited grant is not cut to the request by P7, an earlier port wins on equal mW by P4-none.
+  -- A port in ConnectedProvider is chosen as any other
+  pub chosen-while-providing :
+      bestOf OptionMilliwatts.None OptionAvailableConsumer.None
+      (offering (offer 5000 1500) ∷ psu (PsuState.ConnectedProvider (contract 5000 1500)) (OptionConsumerPowerCapability.Some (offer 5000 3000)) OptionProviderPowerCapability.None ∷ [])
+      2
+      ≡ available 1 (offer 5000 3000)
+  -- An unchanged consumer that went Idle is not connected again: no order, no notice
+  pub unchanged-idle :
+      opened 1 0 EventData.UpdatedConsumerCapability (consuming (offer 5000 3000) false 0) (offering (offer 5000 3000) ∷ [])
+      ≡ done Result.Ok (record { state = consuming (offer 5000 3000) false 0; notices = [] })
+  -- After an error the unconstrained figures stay as they were, and there is no notice of them: port 0 cannot be connected anew (answer 7), and offers
+  -- unconstrained power no more
+  pub error-leaves-figures :
+      fedBy (opened 1 0 EventData.UpdatedConsumerCapability (consuming (unlimited 5000 3000) true 1) (offering (offer 5000 1500) ∷ []))
+      ((7, rows []) ∷ [])
+      ≡ done (Result.Err Error.Timeout)
+      (record {
+        state = stateWith OptionAvailableConsumer.None PowerState.Unlimited (record { unconstrained = true; available = 1 }) (record { mask = 0 });
+        notices =
+            Event.ConsumerDisconnected 0 (record { reason = OptionDisconnectReason.Some DisconnectReason.AutoRenegotiation }) ∷ [];
+      })
   -- P11: 128 is 80 01, 300 is AC 02, 80 00 is refused 31, whatever the limit and the rest
   pub P11-128 : leb128 128 ≡ 0x80 ∷ 0x01 ∷ []
   pub P11-300 : leb128 300 ≡ 0xAC ∷ 0x02 ∷ []
@@ -224,7 +263,7 @@ unfolding follow framed takenBy lineFor lineBytes refusedBytes decimal lineOf re
 p12-written = refl
 
 pub edges : Edges
-unfolding processPsuEvent connectProvider provide postProviderConnected postProviderRemoved removeProvider updateCurrentConsumer connectBest updateUnconstrainedState
+unfolding processPsuEvent connectProvider provide postProviderConnected postProviderRemoved removeProvider updateCurrentConsumer connectBest connectNewConsumer disconnectCurrent disconnectChargers connectConsumer updateUnconstrainedState
 edges =
     record {
       P1-type-c = refl;
@@ -243,6 +282,9 @@ edges =
       P9 = λ c r. rw (is-true (sameOptionProvider r r) (option-provider-refl r));
       P10-connected = refl;
       P10-removed = λ e. refl;
+      chosen-while-providing = refl;
+      unchanged-idle = refl;
+      error-leaves-figures = refl;
       P11-128 = p11-128;
       P11-300 = p11-300;
       P11-refused = p11-refused;

@@ -65,7 +65,7 @@ tellUnconstrained u n = noticesWith (n .provider) (n .disconnected) (n .connecte
 
 -- the records
 
--- a record with nothing in it, for a port that cannot be registered
+-- for a port that cannot be registered: never read, since ports are at most 16
 abbrev pub noPsu : State
 noPsu =
     record {

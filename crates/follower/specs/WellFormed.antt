@@ -1,4 +1,4 @@
--- The followers that takes lead to (proofs/Kept.antt), and that an image is to be read as.
+-- What every take keeps of a follower (proofs/Kept.antt): what is held stands in its place, in its one form.
 use Prim.Native.Nat.{ℕ, zero, suc, _+_, _%_, _≤_, _<_}
 use mathlib.Core.Bool.{Bool, true, _&&_, _||_}
 use mathlib.Core.Path.{_≡_}

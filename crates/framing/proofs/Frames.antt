@@ -161,3 +161,69 @@ refused-more s t k e = tested (eqb (length s) 0) refl e
         let d = eqb-false (length s) 0 p in
         let some : length (s ++ t) ≡ 0 → ⊥ = omega (arith, length-append s t) in
         rw (ne-eqb (length (s ++ t)) 0 some) (refused-at s t (readNumber 4294967295 s) k refl q)
+
+-- bytes without a whole frame are fewer than a length and a packet: at most 5 and 64
+
+-- a number that was cut short, and what one takes
+abbrev Short : ℕ → List ℕ → ReadNumber → Type 0
+Short k s (ReadNumber.Refused n) = n ≡ 30 → length s ≤ k
+Short k s (ReadNumber.Number v used) = used ≤ suc k
+
+digits-short : (k : ℕ) (s : List ℕ) → Short k s (digitsRead k s)
+digits-short k [] = λ e. omega arith
+digits-short zero (b ∷ s) = tested (ltb b 128)
+  where
+    tested : (t : Bool) → Short 0 (b ∷ s) (cond t (ReadNumber.Number b 1) (ReadNumber.Refused 31))
+    tested true = omega arith
+    tested false = λ e. absurd (omega arith)
+digits-short (suc k) (b ∷ s) = tested (ltb b 128) (digitsRead k s) (digits-short k s)
+  where
+    long : (v u : ℕ) (t : Bool) → u ≤ suc k → Short (suc k) (b ∷ s) (cond t (ReadNumber.Refused 31) (ReadNumber.Number (b - 128 + v * 128) (suc u)))
+    long v u true h = λ e. absurd (omega arith)
+    long v u false h = omega arith
+
+    tested : (t : Bool) (r : ReadNumber) → Short k s r → Short (suc k) (b ∷ s) (cond t (ReadNumber.Number b 1) (digitBefore (b - 128) r))
+    tested true r h = omega arith
+    tested false (ReadNumber.Refused n) h = λ e. let g = h e in omega arith
+    tested false (ReadNumber.Number v u) h = long v u (eqb v 0) h
+
+number-short : (l : ℕ) (s : List ℕ) → Short 4 s (readNumber l s)
+unfolding readNumber
+number-short l s = tested (digitsRead 4 s) (digits-short 4 s)
+  where
+    fits : (v u : ℕ) (t : Bool) → u ≤ 5 → Short 4 s (cond t (ReadNumber.Number v u) (ReadNumber.Refused 31))
+    fits v u true h = h
+    fits v u false h = λ e. absurd (omega arith)
+
+    tested : (r : ReadNumber) → Short 4 s r → Short 4 s (within l r)
+    tested (ReadNumber.Refused n) h = h
+    tested (ReadNumber.Number v u) h = fits v u (leb v l) h
+
+abbrev pub Unframed : List ℕ → Framed → Type 0
+Unframed s Framed.Empty = length s ≤ 68
+Unframed s Framed.Cut = length s ≤ 68
+Unframed s (Framed.Refused n) = Unit {0}
+Unframed s (Framed.Frame u n) = Unit {0}
+
+at-short : (s : List ℕ) (r : ReadNumber) → Short 4 s r → Unframed s (framedAt (length s) r)
+at-short s (ReadNumber.Refused n) h = tested (eqb n 30) refl
+  where
+    tested : (t : Bool) → eqb n 30 ≡ t → Unframed s (cond t Framed.Cut (Framed.Refused n))
+    tested true p = let g = h (eqb-true n 30 p) in omega arith
+    tested false p = tt
+at-short s (ReadNumber.Number v u) h = tested (eqb v 0) (ltb 64 v) (leb (u + v) (length s)) refl refl
+  where
+    tested : (a b d : Bool) → ltb 64 v ≡ b → leb (u + v) (length s) ≡ d
+        → Unframed s (cond a (Framed.Refused 32) (cond b (Framed.Refused 32) (cond d (Framed.Frame u v) Framed.Cut)))
+    tested true b d p q = tt
+    tested false true d p q = tt
+    tested false false true p q = tt
+    tested false false false p q = omega (arith, ltb-false 64 v p, leb-false (u + v) (length s) q)
+
+pub unframed-short : (s : List ℕ) → Unframed s (framed s)
+unfolding framed
+unframed-short s = tested (eqb (length s) 0) refl
+  where
+    tested : (t : Bool) → eqb (length s) 0 ≡ t → Unframed s (cond t Framed.Empty (framedAt (length s) (readNumber 4294967295 s)))
+    tested true p = omega (arith, eqb-true (length s) 0 p)
+    tested false p = at-short s (readNumber 4294967295 s) (number-short 4294967295 s)

@@ -1,4 +1,6 @@
--- The event, transcribed from consumer.rs, provider.rs and service/mod.rs; the names are theirs. It is to be laid beside them.
+-- The event, transcribed from consumer.rs, provider.rs and service/mod.rs, to be laid beside them. The names are theirs; a part of one of their
+-- functions that has a name of its own here (attachCharger, detachCharger, disconnectCurrent, connectConsumer, connectBest, provide, removeProvider) stands
+-- just before the function.
 use Prim.Native.Nat.{ℕ, zero, suc, min}
 use mathlib.Core.Bool.{Bool, cond}
 use mathlib.Core.List.{List, []}
@@ -60,7 +62,7 @@ detachCharger i = do
 unfoldable pub disconnectChargers : Registration → Action (Unit {0})
 disconnectChargers g = each (g .chargers) 0 detachCharger
 
--- connect_new_consumer in three parts: the current consumer gives way, the new one is connected, or both are the same
+-- connect_new_consumer, and before it its two parts: the current consumer gives way; the new one is connected
 
 unfoldable pub disconnectCurrent : Registration → AvailableConsumer → AvailableConsumer → DisconnectFlags → Action (Unit {0})
 disconnectCurrent g current new flags = do

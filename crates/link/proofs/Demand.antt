@@ -1,13 +1,13 @@
 -- Demand 3: what a list of takes keeps (Lists.antt), read off at its end. Its last sentence is the floor being the greatest number met; the
 -- one on n + k holds because what was met above what is shown is held, and the next is never left waiting.
 use mathlib.Core.Path.{_≡_, refl, ap, sym, _∙_, subst}
-use mathlib.Core.Bool.{Bool, true, false, cond}
+use mathlib.Core.Bool.{Bool, true, false}
 use mathlib.Core.List.{List, [], _∷_, _++_}
 use mathlib.Core.Logic.{_⊎_, inl, inr, ⊎-elim}
-use Prim.Native.Nat.{ℕ, zero, suc, _+_, _≤_, _<_}
+use Prim.Native.Nat.{ℕ, _+_, _≤_, _<_}
 use native.Mathlib.Omega.{arith}
 use lib.Dec.{ltb}
-use borrow.Author.Tests.{ltb-true, ltb-false, lt-ltb, le-ltb}
+use borrow.Author.Tests.{ltb-true, ltb-false, le-ltb}
 use Rattle.display.specs.declared.Display.{Display}
 use Rattle.display.specs.declared.packet.EventPacket.{EventPacket}
 use Rattle.display.specs.declared.packet.Packet.{Packet}
@@ -15,18 +15,17 @@ use Rattle.display.specs.declared.packet.Picture.{Picture}
 use Rattle.wire.specs.Bytes.{packetBytes}
 use Rattle.wire.specs.Read.{readPacket}
 use Rattle.wire.specs.declared.packet.ReadPacket.{ReadPacket}
-use Rattle.follower.specs.Follower.{fresh, showing, taken, takenAt}
-use Rattle.follower.specs.Held.{nothing}
+use Rattle.follower.specs.Follower.{fresh, taken, takenAt}
 use Rattle.follower.specs.WellFormed.{WellFormedAt}
 use Rattle.follower.specs.declared.Follower.{Follower}
 use Rattle.follower.specs.declared.Shown.{Shown}
 use Rattle.follower.specs.declared.held.Held.{Held}
 use Rattle.follower.proofs.Kept.{fresh-kept}
 use Rattle.link.specs.Link.{after, Comes, NothingAbove, NoLower, Demand3}
-use Rattle.link.specs.Source.{Source, numberIn}
+use Rattle.link.specs.Source.{Source}
 use Rattle.link.specs.Takes.{takenRead, take, takes, Handed, copy, turned-back, AllHanded, Met, Lost, Shows}
 use Rattle.link.proofs.Places.{Has, has-bounds}
-use Rattle.link.proofs.Turns.{Known, Upper, Reached, Waits, GoodAt, ShownFrom}
+use Rattle.link.proofs.Turns.{GoodAt, ShownFrom}
 use Rattle.link.proofs.OneTake.{Kept, event-stays, picture-stays}
 use Rattle.link.proofs.Lists.{read-back, not-refused, one-packet, kept-same, all-kept, one-kept, Or}
 
@@ -67,7 +66,7 @@ module _ (source : Source) where
   fresh-good : Kept source (λ e. ⊥) fresh
   fresh-good = record { formed = fresh-kept; good = (λ e k. absurd k, inl refl) }
 
-  kept-after : (l : List (List ℕ)) → AllHanded source l → Kept source (In l) (after source l)
+  kept-after : (l : List (List ℕ)) → AllHanded source l → Kept source (In l) (after l)
   kept-after l h =
       kept-same source (Or (λ e. ⊥) l) (In l) (λ e q. ⊎-elim (λ z. absurd z) (λ m. m) q) (λ e q. inr q) (takes fresh l)
       (all-kept source (λ e. ⊥) fresh l h fresh-good)
@@ -78,18 +77,18 @@ module _ (source : Source) where
   shown-right f S (Shown.Lost floor) h e g = inl (floor, e)
   shown-right f S (Shown.Picture s) h e g = inr (s .number, g .3, e ∙ ap (λ (d : Display). Shown.Picture (record { number = s .number; display = d })) (g .0))
 
-  demand-a : (l : List (List ℕ)) → AllHanded source l → Lost (after source l) ⊎ ((n : ℕ) × source .Closed n × Shows (after source l) n (source .held n))
+  demand-a : (l : List (List ℕ)) → AllHanded source l → Lost (after l) ⊎ ((n : ℕ) × source .Closed n × Shows (after l) n (source .held n))
   demand-a l h =
-      let f = after source l in
+      let f = after l in
       shown-right f (In l) (f .shown) (f .held) refl (kept-after l h .good)
 
   -- (c)
 
   picture-after : (l : List (List ℕ)) (p : Picture) → source .Written (Packet.Picture p) →
-      after source (l ++ (packetBytes (Packet.Picture p) ∷ [])) ≡ taken (after source l) (Packet.Picture p)
+      after (l ++ (packetBytes (Packet.Picture p) ∷ [])) ≡ taken (after l) (Packet.Picture p)
   picture-after l p w =
       takes-on fresh l (packetBytes (Packet.Picture p) ∷ [])
-      ∙ ap (takenRead (after source l)) (read-back source (Packet.Picture p) (packetBytes (Packet.Picture p)) w refl)
+      ∙ ap (takenRead (after l)) (read-back source (Packet.Picture p) (packetBytes (Packet.Picture p)) w refl)
 
   lost-shows : (floor : ℕ) (h : Held) (p : Picture) → floor ≤ p .number → takenAt (Shown.Lost floor) h (Packet.Picture p) .shown ≡ Shown.Picture p
   lost-shows floor h p l = rw (le-ltb (p .number) floor l)
@@ -110,21 +109,21 @@ module _ (source : Source) where
   no-lower : (S : EventPacket → Type 0) (floor n : ℕ) (h : Held) → GoodAt source S (Shown.Lost floor) h → ((e : EventPacket) → S e → e .number ≤ n) → floor ≤ n
   no-lower S floor n h g k = ⊎-elim (λ z. omega (arith, z)) (λ q. omega (arith, k (q .0) (q .1), q .2)) (g .1)
 
-  demand-c : (l : List (List ℕ)) (p : Picture) → AllHanded source l → source .Written (Packet.Picture p) → Lost (after source l) →
-      (NoLower source (p .number) l → Shows (after source (l ++ (packetBytes (Packet.Picture p) ∷ []))) (p .number) (p .display))
-      × (Shows (after source (l ++ (packetBytes (Packet.Picture p) ∷ []))) (p .number) (p .display) → NoLower source (p .number) l)
+  demand-c : (l : List (List ℕ)) (p : Picture) → AllHanded source l → source .Written (Packet.Picture p) → Lost (after l) →
+      (NoLower (p .number) l → Shows (after (l ++ (packetBytes (Packet.Picture p) ∷ []))) (p .number) (p .display))
+      × (Shows (after (l ++ (packetBytes (Packet.Picture p) ∷ []))) (p .number) (p .display) → NoLower (p .number) l)
   demand-c l p h w lost = (
-    λ k. ap (λ (f : Follower). f .shown) (picture-after l p w) ∙ (at-lost ∙ lost-shows (lost .0) (after source l .held) p (no-lower (In l) (lost .0) (p .number) (after source l .held) good k)),
+    λ k. ap (λ (f : Follower). f .shown) (picture-after l p w) ∙ (at-lost ∙ lost-shows (lost .0) (after l .held) p (no-lower (In l) (lost .0) (p .number) (after l .held) good k)),
     λ s e m.
-        let y : takenAt (Shown.Lost (lost .0)) (after source l .held) (Packet.Picture p) .shown ≡ Shown.Picture p = sym at-lost ∙ (sym (ap (λ (f : Follower). f .shown) (picture-after l p w)) ∙ s) in
-        omega (arith, good .0 e m, lost-only (lost .0) (after source l .held) p p y),
+        let y : takenAt (Shown.Lost (lost .0)) (after l .held) (Packet.Picture p) .shown ≡ Shown.Picture p = sym at-lost ∙ (sym (ap (λ (f : Follower). f .shown) (picture-after l p w)) ∙ s) in
+        omega (arith, good .0 e m, lost-only (lost .0) (after l .held) p p y),
   )
     where
-      good : GoodAt source (In l) (Shown.Lost (lost .0)) (after source l .held)
-      good = subst (λ x. GoodAt source (In l) x (after source l .held)) (lost .1) (kept-after l h .good)
+      good : GoodAt source (In l) (Shown.Lost (lost .0)) (after l .held)
+      good = subst (λ x. GoodAt source (In l) x (after l .held)) (lost .1) (kept-after l h .good)
 
-      at-lost : taken (after source l) (Packet.Picture p) .shown ≡ takenAt (Shown.Lost (lost .0)) (after source l .held) (Packet.Picture p) .shown
-      at-lost = ap (λ (x : Shown). takenAt x (after source l .held) (Packet.Picture p) .shown) (lost .1)
+      at-lost : taken (after l) (Packet.Picture p) .shown ≡ takenAt (Shown.Lost (lost .0)) (after l .held) (Packet.Picture p) .shown
+      at-lost = ap (λ (x : Shown). takenAt x (after l .held) (Packet.Picture p) .shown) (lost .1)
 
   -- (b)
 
@@ -172,16 +171,16 @@ module _ (source : Source) where
           e ∙ (ap (λ (d : Display). Shown.Picture (record { number = s .number; display = d })) (g .0)
           ∙ ap (λ (z : ℕ). Shown.Picture (record { number = z; display = source .held z })) m)
 
-  demand-b : (before later : List (List ℕ)) (n k : ℕ) (d : Display) → AllHanded source (before ++ later) → Shows (after source before) n d → k ≤ 8 →
-      Comes source n k later → NothingAbove source (n + k) (before ++ later) → Shows (after source (before ++ later)) (n + k) (source .held (n + k))
+  demand-b : (before later : List (List ℕ)) (n k : ℕ) (d : Display) → AllHanded source (before ++ later) → Shows (after before) n d → k ≤ 8 →
+      Comes n k later → NothingAbove (n + k) (before ++ later) → Shows (after (before ++ later)) (n + k) (source .held (n + k))
   demand-b before later n k d h s le comes above =
       at-greatest f (In (before ++ later)) n (n + k) (f .shown) refl (kept .formed) (kept .good) shown
       (λ j l m. let y = comes j l m in (y .0, met-right (Packet.Event (y .0)) before later (y .1), y .2))
     where
       f : Follower
-      f = after source (before ++ later)
+      f = after (before ++ later)
 
-      kept : Kept source (In (before ++ later)) (after source (before ++ later))
+      kept : Kept source (In (before ++ later)) (after (before ++ later))
       kept = kept-after (before ++ later) h
 
       fine : (e : EventPacket) → source .Written (Packet.Event e) → n < e .number → e .number ≤ n + k → e .answer ≡ 0
@@ -190,14 +189,14 @@ module _ (source : Source) where
           let z : y .0 ≡ e = source .one (y .0) e (met-written (Packet.Event (y .0)) later (handed-right before later h) (y .1)) w (y .2) in
           ap (λ (x : EventPacket). x .answer) (sym z) ∙ y .3
 
-      start : ShownFrom (n + k) n (after source before .shown)
+      start : ShownFrom (n + k) n (after before .shown)
       start = subst (λ x. ShownFrom (n + k) n x) (sym s) (omega arith, omega arith)
 
-      shown : ShownFrom (n + k) n (after source (before ++ later) .shown)
+      shown : ShownFrom (n + k) n (after (before ++ later) .shown)
       shown =
           subst (λ (x : Follower). ShownFrom (n + k) n (x .shown)) (sym (takes-on fresh before later))
           (all-stay (n + k) n (In (before ++ later)) (omega (arith, le)) (λ e m. above (Packet.Event e) m) fine
-          (In before) (λ e m. met-left (Packet.Event e) before later m) (after source before) later (handed-right before later h)
+          (In before) (λ e m. met-left (Packet.Event e) before later m) (after before) later (handed-right before later h)
           (λ e m. met-right (Packet.Event e) before later m) (λ p m. above (Packet.Picture p) (met-right (Packet.Picture p) before later m))
           (kept-after before (handed-left before later h)) start)
 

@@ -13,34 +13,33 @@ use Rattle.follower.specs.declared.Follower.{Follower}
 use Rattle.link.specs.Source.{Source, numberIn}
 use Rattle.link.specs.Takes.{takes, AllHanded, Met, Lost, Shows}
 
-module _ (source : Source) where
-  -- after these takes
-  abbrev pub after : List (List ℕ) → Follower
-  after l = takes fresh l
+-- after these takes
+abbrev pub after : List (List ℕ) → Follower
+after l = takes fresh l
 
-  -- each event packet from n + 1 to n + k comes, without error
-  abbrev pub Comes : ℕ → ℕ → List (List ℕ) → Type 0
-  Comes n k l = (j : ℕ) → n < j → j ≤ n + k → (e : EventPacket) × Met (Packet.Event e) l × (e .number ≡ j) × (e .answer ≡ 0)
+-- each event packet from n + 1 to n + k comes, without error
+abbrev pub Comes : ℕ → ℕ → List (List ℕ) → Type 0
+Comes n k l = (j : ℕ) → n < j → j ≤ n + k → (e : EventPacket) × Met (Packet.Event e) l × (e .number ≡ j) × (e .answer ≡ 0)
 
-  -- nothing above this number is anywhere among them
-  abbrev pub NothingAbove : ℕ → List (List ℕ) → Type 0
-  NothingAbove n l = (p : Packet) → Met p l → numberIn p ≤ n
+-- nothing above this number is anywhere among them
+abbrev pub NothingAbove : ℕ → List (List ℕ) → Type 0
+NothingAbove n l = (p : Packet) → Met p l → numberIn p ≤ n
 
-  -- it is numbered no lower than every event packet met
-  abbrev pub NoLower : ℕ → List (List ℕ) → Type 0
-  NoLower n l = (e : EventPacket) → Met (Packet.Event e) l → e .number ≤ n
+-- it is numbered no lower than every event packet met
+abbrev pub NoLower : ℕ → List (List ℕ) → Type 0
+NoLower n l = (e : EventPacket) → Met (Packet.Event e) l → e .number ≤ n
 
-  pub record Demand3 : Type 0 where
-    -- the follower says lost, or shows the n of an event that has closed (0: the start), with exactly what was held there
-    pub a : (l : List (List ℕ)) → AllHanded source l → Lost (after l) ⊎ ((n : ℕ) × source .Closed n × Shows (after l) n (source .held n))
-    -- if it shows n and then each event packet n + 1 to n + k comes, in any order, k ≤ 8, all without error, and nothing above n + k is
-    -- anywhere among the takes, it shows n + k
-    pub b :
-        (before later : List (List ℕ)) (n k : ℕ) (d : Display) → AllHanded source (before ++ later) → Shows (after before) n d → k ≤ 8 →
-        Comes n k later → NothingAbove (n + k) (before ++ later) →
-        Shows (after (before ++ later)) (n + k) (source .held (n + k))
-    -- lost, it shows a picture exactly when that is numbered no lower than every event packet met before
-    pub c :
-        (before : List (List ℕ)) (p : Picture) → AllHanded source before → source .Written (Packet.Picture p) → Lost (after before) →
-        (NoLower (p .number) before → Shows (after (before ++ (packetBytes (Packet.Picture p) ∷ []))) (p .number) (p .display))
-        × (Shows (after (before ++ (packetBytes (Packet.Picture p) ∷ []))) (p .number) (p .display) → NoLower (p .number) before)
+pub record Demand3 (source : Source) : Type 0 where
+  -- the follower says lost, or shows the n of an event that has closed (0: the start), with exactly what was held there
+  pub a : (l : List (List ℕ)) → AllHanded source l → Lost (after l) ⊎ ((n : ℕ) × source .Closed n × Shows (after l) n (source .held n))
+  -- if it shows n and then each event packet n + 1 to n + k comes, in any order, k ≤ 8, all without error, and nothing above n + k is
+  -- anywhere among the takes, it shows n + k
+  pub b :
+      (before later : List (List ℕ)) (n k : ℕ) (d : Display) → AllHanded source (before ++ later) → Shows (after before) n d → k ≤ 8 →
+      Comes n k later → NothingAbove (n + k) (before ++ later) →
+      Shows (after (before ++ later)) (n + k) (source .held (n + k))
+  -- lost, it shows a picture exactly when that is numbered no lower than every event packet met before
+  pub c :
+      (before : List (List ℕ)) (p : Picture) → AllHanded source before → source .Written (Packet.Picture p) → Lost (after before) →
+      (NoLower (p .number) before → Shows (after (before ++ (packetBytes (Packet.Picture p) ∷ []))) (p .number) (p .display))
+      × (Shows (after (before ++ (packetBytes (Packet.Picture p) ∷ []))) (p .number) (p .display) → NoLower (p .number) before)

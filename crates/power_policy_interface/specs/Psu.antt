@@ -138,7 +138,7 @@ abbrev pub attachOf : State → Transition
 attachOf s = record { result = expectOf detachedKind (kindOf (s .«psu_state»)); state = enter PsuState.Idle s }
 
 abbrev pub detachOf : State → State
-detachOf s = clearCaps (enter PsuState.Detached s)
+detachOf s = defaultState
 
 abbrev pub disconnectOf : State → Bool → Transition
 disconnectOf s clear =

@@ -8,7 +8,7 @@ use Rattle.power_policy_service.specs.declared.config.OptionConfig.{Opti
 use Rattle.power_policy_service.specs.declared.config.OptionMilliwatts.{OptionMilliwatts}
 use Rattle.power_policy_service.specs.declared.config.ReadMinimum.{ReadMinimum}
 
--- USB Type-C: a source at 5 V advertises 3 A or 1.5 A
+-- USB Type-C: at 5 V a source advertises 3 A, 1.5 A or the default USB current; these are the two above the default
 abbrev pub typeC3A : PowerCapability
 typeC3A = record { «voltage_mv» = 5000; «current_ma» = 3000 }
 

@@ -43,7 +43,8 @@ powerStateOf c total = cond (ltb (c .«limited_power_threshold_mw») total) Powe
 abbrev pub granted : PowerCapability → ProviderPowerCapability → ProviderPowerCapability
 granted p request = record { capability = p; flags = request .flags }
 
--- Limited: the limited capability, also above the request; Unlimited: the request if it is below the unlimited one
+-- Limited: the limited capability, also above the request; Unlimited: the request if it has fewer mW than the unlimited capability, else that, with
+-- the request's flags
 abbrev pub grantOf : Config → PowerState → ProviderPowerCapability → ProviderPowerCapability
 grantOf c PowerState.Limited request = granted (c .«provider_limited») request
 grantOf c PowerState.Unlimited request =

@@ -1,4 +1,5 @@
--- A port's and a charger's record in a row. Past the end of a row getD gives its last argument, which no count reaches.
+-- A port's and a charger's record in a row. Counts are cut at 16 and 8, the lengths of the rows, so that getD's last argument is
+-- never read; it is what the language reads past the end of an array.
 use Prim.Native.Nat.{ℕ}
 use mathlib.Core.List.{List}
 use lib.ListN.{getD}

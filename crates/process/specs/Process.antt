@@ -1,4 +1,5 @@
--- What an event does and what an answer leads to, from one order to the next. That it follows the Rust's event is shown in `interaction`.
+-- What an event does and what an answer leads to, from one order to the next. That it follows the event as
+-- transcribed from the Rust is shown in `interaction`.
 use Prim.Native.Nat.{ℕ, suc, _-_, min}
 use mathlib.Core.Bool.{cond}
 use lib.Dec.{ltb}

@@ -6,7 +6,7 @@ use lib.Dec.{eqb, ltb}
 use lib.ListN.{length, take, drop}
 use Rattle.wire.specs.Read.{readPacket}
 use Rattle.wire.specs.declared.packet.ReadPacket.{ReadPacket}
-use Rattle.framing.specs.Framing.{framed}
+use Rattle.framing.specs.Framing.{framed, refusalOf}
 use Rattle.framing.specs.declared.Framed.{Framed}
 use Rattle.follower.specs.Follower as follower
 use Rattle.follower.specs.declared.Follower.{Follower}
@@ -40,6 +40,10 @@ takenBy d p = record { packets = counted (d .packets); follower = afterRead (d .
 unfoldable pub lineFor : Desk → List ℕ → List ℕ
 lineFor d p = lineRead (counted (d .packets)) (d .follower) (readPacket p)
 
+-- `K refused N` where no packet can be taken from the front of the bytes
+abbrev pub refusedAt : Desk → Framed → List ℕ
+refusedAt d r = refusedBytes (counted (d .packets)) (refusalOf r)
+
 -- a packet with its length, from the front of the bytes
 
 abbrev pub deskAt : Desk → List ℕ → Framed → Desk
@@ -51,7 +55,7 @@ deskAt d s (Framed.Frame used n) = takenBy d (take n (drop used s))
 abbrev pub bytesAt : Desk → List ℕ → Framed → List ℕ
 bytesAt d s Framed.Empty = []
 bytesAt d s Framed.Cut = []
-bytesAt d s (Framed.Refused n) = refusedBytes (counted (d .packets)) n
+bytesAt d s (Framed.Refused n) = refusedAt d (Framed.Refused n)
 bytesAt d s (Framed.Frame used n) = lineFor d (take n (drop used s))
 
 abbrev pub nextAt : Framed → Next
@@ -69,23 +73,22 @@ steppedBytes d s = bytesAt d s (framed s)
 abbrev pub steppedNext : List ℕ → Next
 steppedNext s = nextAt (framed s)
 
--- an end between packets writes nothing; an early end is 30
+-- an end between packets writes nothing; bytes that are left are a packet cut short
 abbrev pub endBytes : Desk → List ℕ → List ℕ
-endBytes d s = cond (eqb (length s) 0) [] (refusedBytes (counted (d .packets)) 30)
+endBytes d s = cond (eqb (length s) 0) [] (refusedAt d Framed.Cut)
 
--- all that is written after the header: a packet's line and what `more` writes after it, or how it ends
-abbrev pub outputAt : (Desk → List ℕ → List ℕ) → Desk → List ℕ → Framed → List ℕ
-outputAt more d s Framed.Empty = []
-outputAt more d s Framed.Cut = refusedBytes (counted (d .packets)) 30
-outputAt more d s (Framed.Refused n) = refusedBytes (counted (d .packets)) n
-outputAt more d s (Framed.Frame used n) =
-    lineFor d (take n (drop used s)) ++ more (takenBy d (take n (drop used s))) (drop (used + n) s)
+-- the whole input: after a packet what `more` writes for the rest; without one the input ends; a refused length stops
+abbrev pub afterStep : (Desk → List ℕ → List ℕ) → Desk → List ℕ → Next → List ℕ
+afterStep more d s (Next.Used n) = more d (drop n s)
+afterStep more d s Next.More = endBytes d s
+afterStep more d s Next.Stop = []
 
 -- for at most k packets
 abbrev pub output : ℕ → Desk → List ℕ → List ℕ
 output zero d s = []
-output (suc k) d s = outputAt (output k) d s (framed s)
+output (suc k) d s = steppedBytes d s ++ afterStep (output k) (steppedDesk d s) s (steppedNext s)
 
--- a packet takes at least two bytes with its length, so there are fewer than bytes
+-- a packet takes at least two bytes with its length, so there are fewer than bytes; ordinals past the greatest of 64 bits stay
+-- at it (`counted`)
 unfoldable pub follow : List ℕ → List ℕ
 follow s = header ++ output (length s) fresh s

@@ -1,9 +1,9 @@
--- Demand 1 over whole runs: in every run the service stays within what a start registers, so that each event that it accepts is bounded (interaction
--- Serves.antt); and a call that is turned back leaves the service as it was.
+-- Demand 1 over whole runs: in every run the service stays within what a start registers, so that each event that it accepts is bounded and
+-- leaves its packet (interaction Serves.antt); and a call that is turned back leaves the service as it was.
 use mathlib.Core.Path.{_≡_, refl, sym, ap, _∙_, subst}
-use mathlib.Core.Bool.{Bool, true, false, cond}
+use mathlib.Core.Bool.{false}
 use mathlib.Core.List.{List, [], _∷_}
-use Prim.Native.Nat.{ℕ, _+_, _*_, _≤_}
+use Prim.Native.Nat.{ℕ, suc}
 use lib.Dec.{eqb}
 use lib.ListN.{length}
 use Rattle.power_policy_interface.specs.Psu.{answerByte}
@@ -14,59 +14,34 @@ use Rattle.event.specs.declared.memory.Memory.{Memory}
 use Rattle.event.specs.declared.memory.Records.{Records}
 use Rattle.event.specs.declared.memory.Registration.{Registration}
 use Rattle.event.specs.declared.phase.Phase.{Phase}
-use Rattle.send.specs.Send.{noticesOf, answerOf, packetOf}
+use Rattle.send.specs.Send.{noticesOf, answerOf}
 use Rattle.service.specs.Refusals.{firstRefused, openRefusals, answerRefusals}
 use Rattle.service.specs.Service as service
-use Rattle.service.specs.Service.{openOf, refused}
+use Rattle.service.specs.Service.{eventOf, openOf, refused}
 use Rattle.service.specs.declared.Service.{Service}
 use Rattle.interaction.specs.Action.{Held, Interaction, done, ask}
 use Rattle.interaction.specs.Machine.{standsAt}
 use Rattle.interaction.specs.Served.{Answers, serviceAfter, fedBy, ordersBy, numbered, Stands, Opens, Registered, eventAt}
+use Rattle.interaction.proofs.Bound.{event-bound}
 use Rattle.interaction.proofs.Serves.{follows, counted-bound}
 use Rattle.run.specs.Policy.{Call}
 use Rattle.run.specs.Run.{after, services}
 use Rattle.run.specs.Sized.{CallsFit}
-use Rattle.run.proofs.Matches.{Runs, Went, goes}
+use Rattle.run.specs.Demands.{Bounded, Packs}
+use Rattle.run.proofs.Matches.{Last, Runs, goes}
 use Rattle.run.proofs.Writer.{listed-same}
 
-pub runs-registered : (l : List Call) (s : Service) (held before : InternalState) → CallsFit l → Runs s held before → Registered (services s l)
+pub runs-registered : (l : List Call) (s : Service) (held : Last) (before : InternalState) → CallsFit l → Runs s held before → Registered (services s l)
 runs-registered [] s held before cf x = record { chargers = x .limits .chargers; number = x .number }
 runs-registered (c ∷ l) s held before cf x =
     let t = goes s held before c (cf .0) x in
     runs-registered l (after s c) (t .heldₜ) (t .beforeₜ) (cf .1) (t .runs)
 
--- wherever a run has come to, an event that is accepted there follows the interaction for every list of answers, and its orders are counted and bounded
-pub record Bounded (s : Service) : Type 0 where
-  pub stands :
-      (kind device detail : ℕ) (r : Records) (l : Answers) → Opens s kind device detail →
-      Stands (serviceAfter (openOf s kind device detail r .service) l) (s .registration)
-      (numbered (s .number) (fedBy (eventAt s kind device detail r) l))
-      (length (ordersBy (eventAt s kind device detail r) l))
-      (fedBy (eventAt s kind device detail r) l)
-  pub bound :
-      (kind device detail : ℕ) (r : Records) (l : Answers) → Opens s kind device detail →
-      serviceAfter (openOf s kind device detail r .service) l .orders ≤ 3 + 4 * s .registration .chargers
-
-pub run-bounded : (l : List Call) (s : Service) (held before : InternalState) → CallsFit l → Runs s held before → Bounded (services s l)
-run-bounded l s held before cf x =
-    let g = runs-registered l s held before cf x in
-    record {
-      stands = λ kind device detail r m o. follows (services s l) kind device detail r m g o;
-      bound = λ kind device detail r m o. counted-bound (services s l) kind device detail r m g o;
-    }
-
--- an event that has closed leaves its packet: the definition's answer, notices and number of orders
+-- an event that has closed leaves its packet
 
 abbrev IsDone : Result → Held → Interaction → Type 0
 IsDone a h (done b k) = (b ≡ a) × (k ≡ h)
 IsDone a h (ask o k) = ⊥
-
-pub record Packs (s : Service) (a : Result) (h : Held) (n given : ℕ) : Type 0 where
-  pub number : packetOf s .number ≡ n
-  pub answer : packetOf s .answer ≡ answerByte a
-  pub orders : packetOf s .orders ≡ given
-  pub notices : display.listed (packetOf s .notices) ≡ h .notices
-  pub held : s .memory .state ≡ h .state
 
 packs-at : (g : Registration) (p : Phase) (m : Memory) (a : Result) (h : Held) → IsDone a h (standsAt g p m) →
     (answerOf p ≡ answerByte a) × (display.listed (noticesOf (m .notices)) ≡ h .notices) × (m .state ≡ h .state)
@@ -80,6 +55,25 @@ pub closed-packet : (s : Service) (g : Registration) (number given : ℕ) (a : R
 closed-packet s g number given a h t =
     let q = packs-at g (s .phase) (s .memory) a h (subst (IsDone a h) (sym (t .left)) (refl, refl)) in
     record { number = t .numbered; answer = q .0; orders = t .counted; notices = q .1; held = q .2 }
+
+event-packet : (s : Service) (kind device detail : ℕ) (r : Records) (l : Answers) (a : Result) (h : Held) → Registered s → Opens s kind device detail →
+    fedBy (eventAt s kind device detail r) l ≡ done a h →
+    Packs (serviceAfter (openOf s kind device detail r .service) l) a h (suc (s .number)) (length (ordersBy (eventAt s kind device detail r) l))
+event-packet s kind device detail r l a h g o e =
+    let n : ℕ = length (ordersBy (eventAt s kind device detail r) l) in
+    let t = serviceAfter (openOf s kind device detail r .service) l in
+    closed-packet t (s .registration) (suc (s .number)) n a h
+    (subst (λ i. Stands t (s .registration) (numbered (s .number) i) n i) e (follows s kind device detail r l g o))
+
+pub run-bounded : (l : List Call) (s : Service) (held : Last) (before : InternalState) → CallsFit l → Runs s held before → Bounded (services s l)
+run-bounded l s held before cf x =
+    let g = runs-registered l s held before cf x in
+    record {
+      stands = λ kind device detail r m o. follows (services s l) kind device detail r m g o;
+      closes = λ kind device detail r. event-bound (services s l .registration) device (eventOf kind detail) (services s l .memory .state) r;
+      bound = λ kind device detail r m o. counted-bound (services s l) kind device detail r m g o;
+      packs = λ kind device detail r m a h o e. event-packet (services s l) kind device detail r m a h g o e;
+    }
 
 -- turned back: the number of the first condition that holds, and the service as it was
 pub open-turned-back : (s : Service) (kind device detail : ℕ) (r : Records) → eqb (firstRefused (openRefusals s kind device detail)) 0 ≡ false →

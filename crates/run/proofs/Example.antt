@@ -1,24 +1,30 @@
 -- The theorems are not empty: a run with a switch, an error and a provider, and takes that lose, repeat and reorder. All of it is computed.
 use mathlib.Core.Path.{_≡_, refl, ap}
-use mathlib.Core.Logic.{_⊎_, inl, inr, ⊎-elim}
+use mathlib.Core.Logic.{inl, inr, ⊎-elim}
 use native.Mathlib.Omega.{arith}
 use mathlib.Core.Bool.{false}
 use mathlib.Core.List.{List, [], _∷_, _++_}
 use Prim.Native.Nat.{ℕ, zero, suc, _<_, _≤_}
 use Rattle.power_policy_interface.specs.declared.capability.ConsumerPowerCapability.{ConsumerPowerCapability}
+use Rattle.power_policy_interface.specs.declared.capability.DisconnectReason.{DisconnectReason}
 use Rattle.power_policy_interface.specs.declared.capability.OptionConsumerPowerCapability.{OptionConsumerPowerCapability}
 use Rattle.power_policy_interface.specs.declared.capability.OptionProviderPowerCapability.{OptionProviderPowerCapability}
+use Rattle.power_policy_interface.specs.declared.capability.OptionDisconnectReason.{OptionDisconnectReason}
 use Rattle.power_policy_interface.specs.declared.capability.OptionPsuType.{OptionPsuType}
 use Rattle.power_policy_interface.specs.declared.capability.ProviderPowerCapability.{ProviderPowerCapability}
 use Rattle.power_policy_interface.specs.declared.psu.PsuState.{PsuState}
 use Rattle.power_policy_interface.specs.declared.psu.State.{State}
+use Rattle.power_policy_interface.specs.declared.service.event.Event.{Event}
+use Rattle.display.specs.Notices.{empty}
 use Rattle.display.specs.declared.packet.EventPacket.{EventPacket}
 use Rattle.display.specs.declared.packet.Packet.{Packet}
-use Rattle.power_policy_service.specs.Config.{rustDefault}
+use Rattle.power_policy_service.specs.Config.{rustDefault, configFrom}
 use Rattle.event.specs.declared.memory.Records.{Records}
-use Rattle.service.specs.Service.{freshService}
+use Rattle.service.specs.Service.{freshService, startOf}
 use Rattle.service.specs.declared.Service.{Service}
+use Rattle.service.specs.declared.Started.{Started}
 use Rattle.send.specs.Send.{packetOf, pictureOf}
+use Rattle.send.specs.declared.SentPacket.{SentPacket}
 use Rattle.wire.specs.Bytes.{packetBytes}
 use Rattle.wire.specs.Bytes as bytes
 use Rattle.wire.specs.Number as number
@@ -32,12 +38,13 @@ use Rattle.follower.specs.declared.Shown.{Shown}
 use Rattle.wire.specs.Read.{readPacket}
 use Rattle.wire.specs.declared.packet.ReadPacket.{ReadPacket}
 use Rattle.link.specs.Source.{Source, numberIn}
-use Rattle.link.specs.Takes.{takes, Met, Handed, copy, AllHanded, Shows}
+use Rattle.link.specs.Takes.{takes, Met, copy, AllHanded, Shows}
 use Rattle.link.proofs.Lists.{one-packet}
 use Rattle.run.specs.Policy.{Call, openEvent, giveAnswer, writePacket, writePicture, started, heldAt}
-use Rattle.run.specs.Run.{services, Wrote}
+use Rattle.run.specs.Run.{Wrote, pushedAll, packetTo, services, policies}
 use Rattle.run.specs.Sized.{RecordsFit, CallsFit}
-use Rattle.run.proofs.Linked.{source, run-demand-3}
+use Rattle.run.specs.Demands.{Demands}
+use Rattle.run.proofs.Linked.{source, run-demand-3, after-start}
 
 abbrev offer : ℕ → ℕ → ConsumerPowerCapability
 offer v a =
@@ -236,3 +243,25 @@ pub by-theorem : Shows (takes fresh mixed) 2 (writer .held 2)
 by-theorem =
     run-demand-3 rustDefault 2 0 (omega arith) (omega arith) (record { unlimited = refl; limited = refl }) calls calls-fit .b (picture [] ∷ []) later 0 2 (pictureOf start .display) handed
     shows-start (omega arith) comes nothing-above
+
+-- the packets that the definition says: event 2 has three orders and two notices, event 3 its error, one order and no notice
+
+pub says-none : packetTo (started (start .registration)) ≡ SentPacket.Refused 27
+says-none = refl
+
+pub says-two : packetTo (policies (started (start .registration)) two)
+    ≡ SentPacket.Packet (record { number = 2; answer = 0; orders = 3; notices = pushedAll empty (Event.ConsumerDisconnected 0 (record { reason = OptionDisconnectReason.Some DisconnectReason.Switching }) ∷ Event.ConsumerConnected 1 strong ∷ []) })
+unfolding policy.updateUnconstrainedState policy.attachCharger policy.postConsumerConnected policy.detachCharger policy.disconnectChargers policy.disconnectCurrent policy.connectConsumer policy.connectNewConsumer policy.connectBest policy.updateCurrentConsumer policy.postProviderConnected policy.provide policy.connectProvider policy.removeProvider policy.postProviderRemoved policy.processPsuEvent
+says-two = refl
+
+pub says-three : packetTo (policies (started (start .registration)) three) ≡ SentPacket.Packet (record { number = 3; answer = 7; orders = 1; notices = empty })
+unfolding policy.updateUnconstrainedState policy.attachCharger policy.postConsumerConnected policy.detachCharger policy.disconnectChargers policy.disconnectCurrent policy.connectConsumer policy.connectNewConsumer policy.connectBest policy.updateCurrentConsumer policy.postProviderConnected policy.provide policy.connectProvider policy.removeProvider policy.postProviderRemoved policy.processPsuEvent
+says-three = refl
+
+-- a start with these figures is accepted, so that the demands hold of it
+
+pub accepted : startOf (configFrom 15000 5000 3000 5000 1500 0 0) 2 0 ≡ Started.Service start
+accepted = refl
+
+pub demands : Demands start
+demands = after-start 15000 5000 3000 5000 1500 0 0 2 0 start accepted

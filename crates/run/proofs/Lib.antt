@@ -1,8 +1,11 @@
 pub mod Tracked
 pub mod Sized
 pub mod Matches
-pub mod Returns
 pub mod Writer
 pub mod Bounds
+pub mod Returns
+pub mod Orders
+pub mod Rows
+pub mod Starts
 pub mod Linked
 pub mod Example

@@ -1,16 +1,17 @@
 -- The machine and the definition go through a run together: a call that is turned back changes neither, an accepted one leads both to the
 -- same rest (interaction Follows.antt), and at each close the notices lead from what was held before (Carries.antt).
 use mathlib.Core.Path.{_≡_, refl, sym, ap, _∙_, subst}
-use mathlib.Core.Bool.{Bool, true, false, cond, not, _&&_}
-use mathlib.Core.List.{List, [], _∷_, _++_}
+use mathlib.Core.Bool.{Bool, true, false, cond}
+use mathlib.Core.List.{List, []}
 use Prim.Native.Nat.{ℕ, zero, suc, _+_, _*_, _<_, _≤_}
 use native.Mathlib.Omega.{arith}
-use lib.Dec.{leb, ltb, eqb}
-use borrow.Author.Tests.{lt-ltb, le-leb, leb-false, eqb-true, eqb-false}
+use lib.Dec.{leb, eqb}
+use borrow.Author.Tests.{le-leb, leb-false, eqb-true, eqb-false}
 use Rattle.power_policy_interface.specs.declared.psu.Result.{Result}
+use Rattle.power_policy_interface.specs.declared.service.event.Event.{Event}
 use Rattle.display.specs.Notices.{appliedAll}
 use Rattle.display.specs.declared.Display.{Display}
-use Rattle.event.specs.Memory.{noNotices}
+use Rattle.event.specs.Memory.{noNotices, freshState}
 use Rattle.event.specs.Phase.{orderOf, outcomeOf, switchOrder, connectOrder}
 use Rattle.event.specs.declared.memory.InternalState.{InternalState}
 use Rattle.event.specs.declared.memory.Memory.{Memory}
@@ -22,60 +23,74 @@ use Rattle.event.specs.declared.phase.Phase.{Phase}
 use Rattle.event.specs.declared.phase.Turn.{Turn}
 use Rattle.update.specs.Update.{remember}
 use Rattle.process.specs.Process.{answeredOf, processOf}
-use Rattle.service.specs.Refusals.{firstRefused, openConditions, openRefusals, notRegistered, unknownEvent, numbersUsed, isOpen}
+use Rattle.service.specs.Refusals.{firstRefused, openConditions, notRegistered, unknownEvent, numbersUsed, isOpen}
 use Rattle.service.specs.Service.{stepped, moved, resultOf, answerOf, eventOf, openedOf, openOf, refused}
 use Rattle.service.specs.declared.Service.{Service}
 use Rattle.service.specs.declared.Step.{Step}
 use Rattle.interaction.specs.Action.{Held, Interaction, done, ask}
 use Rattle.send.specs.Send.{displayOf}
-use Rattle.interaction.specs.Carried.{Leads, Carries}
+use Rattle.interaction.specs.Carried.{Carries}
 use Rattle.interaction.specs.Interaction.{close, event}
 use Rattle.interaction.specs.Machine.{heldOf, listed, rest, standsAt, standsFor, Fits}
-use Rattle.interaction.specs.Served.{AtMost, noAnswer, numbered}
+use Rattle.interaction.specs.Served.{AtMost, noAnswer}
 use Rattle.interaction.proofs.Bound.{event-bound}
 use Rattle.interaction.proofs.Carries.{event-carries}
 use Rattle.interaction.proofs.Follows.{opened, leaving-answered, switching-answered, connecting-answered, providing-answered}
 use Rattle.interaction.proofs.Kept.{FitsTurn, opened-fits, answered-fits}
 use Rattle.interaction.proofs.Serves.{service, serviceAt, closed-answer, open-answer, moved-to, last-not-refused, below}
-use Rattle.run.specs.Policy.{Call, openEvent, giveAnswer, writePacket, writePicture, Stand, between, at, Policy, proceeds, isAt, opens, answers, policyAfter}
+use Rattle.run.specs.Policy.{Call, openEvent, giveAnswer, writePacket, writePicture, between, Policy, proceeds, isAt, answers, policyAfter}
 use Rattle.run.specs.Run.{after}
+use Rattle.run.specs.Demands.{standOf}
 use Rattle.run.specs.Sized.{RecordsFit, ConfigFits, CallFits}
 use Rattle.run.proofs.Sized.{StateFits, HeldFits, Sized, event-sized}
 
-abbrev pub standOf : Interaction → Stand
-standOf (done a h) = between
-standOf (ask o k) = at o k
+-- what the event closed last has left
+pub record Last : Type 0 where
+  pub state : InternalState
+  pub answer : Result
+  pub orders : ℕ
+  pub notices : List Event
 
--- the definition where the machine is, with what was held when the last event closed
-abbrev pub policyOf : Service → InternalState → Policy
+abbrev pub lastOf : ℕ → Result → Held → Last
+lastOf given a h = record { state = h .state; answer = a; orders = given; notices = h .notices }
+
+-- nothing yet
+abbrev pub firstLast : Last
+firstLast = lastOf 0 Result.Ok (record { state = freshState; notices = [] })
+
+-- the definition where the machine is, with what the event closed last has left
+abbrev pub policyOf : Service → Last → Policy
 policyOf s held =
     record {
       registration = s .registration;
       number = s .number;
-      state = held;
-      stand = standOf (standsAt (s .registration) (s .phase) (s .memory));
+      state = held .state;
+      answer = held .answer;
+      orders = held .orders;
+      notices = held .notices;
+      stand = standOf (s .orders) (standsAt (s .registration) (s .phase) (s .memory));
     }
 
 -- an open event: so many orders before the open one, and so many at most from it on
-pub record Open (g : Registration) (number given : ℕ) (p : Phase) (m : Memory) (held : InternalState) : Type 0 where
+pub record Open (g : Registration) (number given : ℕ) (p : Phase) (m : Memory) (held : Last) : Type 0 where
   pub fits : Fits (g .chargers) p (m .notices)
   pub before : ℕ
   pub more : ℕ
   pub most : AtMost more (standsAt g p m)
   pub sum : before + more ≤ 35
   pub counted : given ≡ before + 1
-  pub carries : Carries (displayOf held) (standsAt g p m)
+  pub carries : Carries (displayOf (held .state)) (standsAt g p m)
   pub below : number < 4294967295
   pub sized : Sized (standsAt g p m)
 
--- a closed one: what is held is what it closed with, and without error its notices lead there from what was held before
-pub record Closed (given : ℕ) (a : Result) (m : Memory) (held before : InternalState) : Type 0 where
-  pub same : m .state ≡ held
+-- a closed one: what it left is what the machine has, and without error its notices lead there from what was held before
+pub record Closed (given : ℕ) (a : Result) (m : Memory) (held : Last) (before : InternalState) : Type 0 where
+  pub same : lastOf given a (heldOf m) ≡ held
   pub few : given ≤ 35
-  pub leads : a ≡ Result.Ok → displayOf held ≡ appliedAll (listed (m .notices)) (displayOf before)
+  pub leads : a ≡ Result.Ok → displayOf (held .state) ≡ appliedAll (listed (m .notices)) (displayOf before)
   pub sized : HeldFits (heldOf m)
 
-abbrev pub StateAt : Registration → ℕ → ℕ → Phase → Memory → InternalState → InternalState → Type 0
+abbrev pub StateAt : Registration → ℕ → ℕ → Phase → Memory → Last → InternalState → Type 0
 StateAt g number given (Phase.Closed a) m held before = Closed given a m held before
 StateAt g number given (Phase.Leaving i p f) m held before = Open g number given (Phase.Leaving i p f) m held
 StateAt g number given (Phase.Switching l old f new) m held before = Open g number given (Phase.Switching l old f new) m held
@@ -88,19 +103,20 @@ pub record Limits (g : Registration) : Type 0 where
   pub ports : g .ports ≤ 16
   pub config : ConfigFits (g .config)
 
-pub record Runs (s : Service) (held before : InternalState) : Type 0 where
+pub record Runs (s : Service) (held : Last) (before : InternalState) : Type 0 where
   pub limits : Limits (s .registration)
   pub number : s .number ≤ 4294967295
   pub state : StateAt (s .registration) (s .number) (s .orders) (s .phase) (s .memory) held before
 
 -- what was held before the last close, when an event goes on to this
-abbrev pub nextBefore : Interaction → InternalState → InternalState → InternalState
-nextBefore (done a h) held before = held
+abbrev pub nextBefore : Interaction → Last → InternalState → InternalState
+nextBefore (done a h) held before = held .state
 nextBefore (ask o k) held before = before
 
-abbrev pub nextHeld : Interaction → InternalState → InternalState
-nextHeld (done a h) held = h .state
-nextHeld (ask o k) held = held
+-- what the last close has left, when an event goes on to this after so many orders
+abbrev pub nextHeld : ℕ → Interaction → Last → Last
+nextHeld given (done a h) held = lastOf given a h
+nextHeld given (ask o k) held = held
 
 -- the end of an accepted call: both proceed
 
@@ -112,13 +128,19 @@ leads-ok d (Result.Err x) h c e = absurd (subst IsErr e tt)
     IsErr Result.Ok = ⊥
     IsErr (Result.Err y) = Unit {0}
 
-pub proceeds-both : (g : Registration) (number given more : ℕ) (p : Phase) (m : Memory) (held before : InternalState) → Limits g → number < 4294967295 →
-    Fits (g .chargers) p (m .notices) → AtMost more (standsAt g p m) → given + more ≤ 35 → Carries (displayOf held) (standsAt g p m) → Sized (standsAt g p m) →
-    Runs (serviceAt g number given p m) (nextHeld (standsAt g p m) held) (nextBefore (standsAt g p m) held before)
+more-none : (n : ℕ) → n + 0 ≡ n
+more-none n = omega arith
+
+one-more : (n : ℕ) → suc n ≡ n + 1
+one-more n = omega arith
+
+pub proceeds-both : (g : Registration) (number given more : ℕ) (p : Phase) (m : Memory) (held : Last) (before : InternalState) → Limits g → number < 4294967295 →
+    Fits (g .chargers) p (m .notices) → AtMost more (standsAt g p m) → given + more ≤ 35 → Carries (displayOf (held .state)) (standsAt g p m) → Sized (standsAt g p m) →
+    Runs (serviceAt g number given p m) (nextHeld given (standsAt g p m) held) (nextBefore (standsAt g p m) held before)
 proceeds-both g number given more (Phase.Closed a) m held before le nb f am su ca sz = record {
   limits = le;
   number = omega (arith, nb);
-  state = record { same = refl; few = omega (arith, su); leads = λ e. leads-ok (displayOf held) a (heldOf m) ca e; sized = sz };
+  state = record { same = ap (λ n. lastOf n a (heldOf m)) (more-none given); few = omega (arith, su); leads = λ e. leads-ok (displayOf (held .state)) a (heldOf m) ca e; sized = sz };
 }
 proceeds-both g number given more (Phase.Leaving i p x) m held before le nb f am su ca sz = record {
   limits = le;
@@ -143,33 +165,33 @@ proceeds-both g number given more (Phase.Providing p c) m held before le nb f am
 
 -- and the definition is where the machine is
 pub proceeds-same : (g : Registration) (number given : ℕ) (p : Phase) (m : Memory) (q : Policy) → q .registration ≡ g → q .number ≡ number →
-    proceeds q (standsAt g p m) ≡ policyOf (serviceAt g number given p m) (nextHeld (standsAt g p m) (q .state))
-proceeds-same g number given (Phase.Closed a) m q eg en = λ i. record { registration = eg i; number = suc (en i); state = m .state; stand = between }
-proceeds-same g number given (Phase.Leaving j p f) m q eg en = λ i. record { registration = eg i; number = en i; state = q .state; stand = standOf (standsAt g (Phase.Leaving j p f) m) }
-proceeds-same g number given (Phase.Switching l old f new) m q eg en = λ i. record { registration = eg i; number = en i; state = q .state; stand = standOf (standsAt g (Phase.Switching l old f new) m) }
-proceeds-same g number given (Phase.Connecting s new) m q eg en = λ i. record { registration = eg i; number = en i; state = q .state; stand = standOf (standsAt g (Phase.Connecting s new) m) }
-proceeds-same g number given (Phase.Providing p c) m q eg en = λ i. record { registration = eg i; number = en i; state = q .state; stand = standOf (standsAt g (Phase.Providing p c) m) }
+    proceeds q given (standsAt g p m) ≡ policyOf (serviceAt g number given p m) (nextHeld given (standsAt g p m) (record { state = q .state; answer = q .answer; orders = q .orders; notices = q .notices }))
+proceeds-same g number given (Phase.Closed a) m q eg en = λ i. record { registration = eg i; number = suc (en i); state = m .state; answer = a; orders = given; notices = listed (m .notices); stand = between }
+proceeds-same g number given (Phase.Leaving j p f) m q eg en = λ i. record { registration = eg i; number = en i; state = q .state; answer = q .answer; orders = q .orders; notices = q .notices; stand = standOf (one-more given i) (standsAt g (Phase.Leaving j p f) m) }
+proceeds-same g number given (Phase.Switching l old f new) m q eg en = λ i. record { registration = eg i; number = en i; state = q .state; answer = q .answer; orders = q .orders; notices = q .notices; stand = standOf (one-more given i) (standsAt g (Phase.Switching l old f new) m) }
+proceeds-same g number given (Phase.Connecting s new) m q eg en = λ i. record { registration = eg i; number = en i; state = q .state; answer = q .answer; orders = q .orders; notices = q .notices; stand = standOf (one-more given i) (standsAt g (Phase.Connecting s new) m) }
+proceeds-same g number given (Phase.Providing p c) m q eg en = λ i. record { registration = eg i; number = en i; state = q .state; answer = q .answer; orders = q .orders; notices = q .notices; stand = standOf (one-more given i) (standsAt g (Phase.Providing p c) m) }
 
 -- one call
 
 -- how a call moves a run: nothing changes; an event is open after it; or one has closed
-pub data Moved (s t : Service) (held heldₜ before beforeₜ : InternalState) : Type 0 where
+pub data Moved (s t : Service) (held heldₜ : Last) (before beforeₜ : InternalState) : Type 0 where
   stays : t ≡ s → heldₜ ≡ held → beforeₜ ≡ before → Moved s t held heldₜ before beforeₜ
   asks : isOpen (t .phase) ≡ true → t .number ≡ s .number → heldₜ ≡ held → beforeₜ ≡ before → Moved s t held heldₜ before beforeₜ
-  closes : t .number ≡ suc (s .number) → beforeₜ ≡ held → Moved s t held heldₜ before beforeₜ
+  closes : t .number ≡ suc (s .number) → beforeₜ ≡ held .state → Moved s t held heldₜ before beforeₜ
 
-pub record Went (s : Service) (held before : InternalState) (c : Call) (t : Service) : Type 0 where
-  pub heldₜ : InternalState
+pub record Went (s : Service) (held : Last) (before : InternalState) (c : Call) (t : Service) : Type 0 where
+  pub heldₜ : Last
   pub beforeₜ : InternalState
   pub same : policyAfter (policyOf s held) c ≡ policyOf t heldₜ
   pub runs : Runs t heldₜ beforeₜ
   pub moves : Moved s t held heldₜ before beforeₜ
 
-stayed : (s : Service) (held before : InternalState) (c : Call) → Runs s held before → policyAfter (policyOf s held) c ≡ policyOf s held → Went s held before c s
+stayed : (s : Service) (held : Last) (before : InternalState) (c : Call) → Runs s held before → policyAfter (policyOf s held) c ≡ policyOf s held → Went s held before c s
 stayed s held before c r e = record { heldₜ = held; beforeₜ = before; same = e; runs = r; moves = stays refl refl refl }
 
-moved-on : (g : Registration) (number given k : ℕ) (p q : Phase) (m n : Memory) (held before : InternalState) →
-    Moved (service g number k q n) (serviceAt g number given p m) held (nextHeld (standsAt g p m) held) before (nextBefore (standsAt g p m) held before)
+moved-on : (g : Registration) (number given k : ℕ) (p q : Phase) (m n : Memory) (held : Last) (before : InternalState) →
+    Moved (service g number k q n) (serviceAt g number given p m) held (nextHeld given (standsAt g p m) held) before (nextBefore (standsAt g p m) held before)
 moved-on g number given k (Phase.Closed a) q m n held before = closes refl refl
 moved-on g number given k (Phase.Leaving i p f) q m n held before = asks refl refl refl refl
 moved-on g number given k (Phase.Switching l old f new) q m n held before = asks refl refl refl refl
@@ -177,23 +199,23 @@ moved-on g number given k (Phase.Connecting s new) q m n held before = asks refl
 moved-on g number given k (Phase.Providing p c) q m n held before = asks refl refl refl refl
 
 -- a turn that stands for what the definition goes on with
-went : (g : Registration) (number given k more : ℕ) (t : Turn) (q : Phase) (n : Memory) (held before : InternalState) (c : Call) (i : Interaction) → Limits g → number < 4294967295 →
-    standsFor g t ≡ i → FitsTurn g t → AtMost more i → given + more ≤ 35 → Carries (displayOf held) i → Sized i →
-    policyAfter (policyOf (service g number k q n) held) c ≡ proceeds (policyOf (service g number k q n) held) i →
+went : (g : Registration) (number given k more : ℕ) (t : Turn) (q : Phase) (n : Memory) (held : Last) (before : InternalState) (c : Call) (i : Interaction) → Limits g → number < 4294967295 →
+    standsFor g t ≡ i → FitsTurn g t → AtMost more i → given + more ≤ 35 → Carries (displayOf (held .state)) i → Sized i →
+    policyAfter (policyOf (service g number k q n) held) c ≡ proceeds (policyOf (service g number k q n) held) given i →
     Went (service g number k q n) held before c (moved g number given t .service)
 went g number given k more t q n held before c i le nb e f am su ca sz pol =
     subst (λ z. Went (service g number k q n) held before c z) (sym (moved-to g number given (t .phase) (t .memory) nb (omega (arith, su))))
     (record {
-      heldₜ = nextHeld (standsFor g t) held;
+      heldₜ = nextHeld given (standsFor g t) held;
       beforeₜ = nextBefore (standsFor g t) held before;
-      same = pol ∙ (ap (λ z. proceeds (policyOf (service g number k q n) held) z) (sym e) ∙ proceeds-same g number given (t .phase) (t .memory) (policyOf (service g number k q n) held) refl refl);
-      runs = proceeds-both g number given more (t .phase) (t .memory) held before le nb f (subst (λ z. AtMost more z) (sym e) am) su (subst (λ z. Carries (displayOf held) z) (sym e) ca) (subst Sized (sym e) sz);
+      same = pol ∙ (ap (λ z. proceeds (policyOf (service g number k q n) held) given z) (sym e) ∙ proceeds-same g number given (t .phase) (t .memory) (policyOf (service g number k q n) held) refl refl);
+      runs = proceeds-both g number given more (t .phase) (t .memory) held before le nb f (subst (λ z. AtMost more z) (sym e) am) su (subst (λ z. Carries (displayOf (held .state)) z) (sym e) ca) (subst Sized (sym e) sz);
       moves = moved-on g number given k (t .phase) q (t .memory) n held before;
     })
 
 -- an answer at an open phase
 
-answer-goes : (g : Registration) (number k : ℕ) (p : Phase) (m : Memory) (held before : InternalState) (o : Order) (a : ℕ) (r : Records) → Limits g → RecordsFit r → number ≤ 4294967295 →
+answer-goes : (g : Registration) (number k : ℕ) (p : Phase) (m : Memory) (held : Last) (before : InternalState) (o : Order) (a : ℕ) (r : Records) → Limits g → RecordsFit r → number ≤ 4294967295 →
     orderOf p ≡ OptionOrder.Some o → standsAt g p m ≡ ask o (λ x y. rest g p x (heldOf m) y close) →
     standsFor g (answeredOf g p o m (resultOf a) r) ≡ rest g p (resultOf a) (heldOf m) r close →
     StateAt g number k p m held before → Open g number k p m held →
@@ -210,36 +232,36 @@ answer-goes g number k p m held before o a r le rf nb eo es e st op =
     i : Interaction
     i = rest g p (resultOf a) (heldOf m) r close
 
-    pol : policyAfter (policyOf s held) (giveAnswer a r) ≡ cond (noAnswer o a) (policyOf s held) (proceeds (policyOf s held) i)
-    pol = ap (λ z. answers (standOf z) (policyOf s held) a r) es
+    pol : policyAfter (policyOf s held) (giveAnswer a r) ≡ cond (noAnswer o a) (policyOf s held) (proceeds (policyOf s held) k i)
+    pol = ap (λ z. answers (standOf k z) (policyOf s held) a r) es
 
     fits-next : FitsTurn g (answeredOf g p o m (resultOf a) r)
     fits-next = answered-fits g p m (outcomeOf o (resultOf a)) r (op .fits)
 
-    step : (n : ℕ) → AtMost n (standsAt g p m) → op .before + n ≤ 35 → Carries (displayOf held) (standsAt g p m) → policyAfter (policyOf s held) (giveAnswer a r) ≡ proceeds (policyOf s held) i →
+    step : (n : ℕ) → AtMost n (standsAt g p m) → op .before + n ≤ 35 → Carries (displayOf (held .state)) (standsAt g p m) → policyAfter (policyOf s held) (giveAnswer a r) ≡ proceeds (policyOf s held) k i →
         Went s held before (giveAnswer a r) (moved g number k (answeredOf g p o m (resultOf a) r) .service)
     step zero am su ca po = absurd (subst (λ z. AtMost zero z) es am)
     step (suc n) am su ca po =
         went g number k k n (answeredOf g p o m (resultOf a) r) p m held before (giveAnswer a r) i le (op .below) e fits-next
         (subst (λ z. AtMost (suc n) z) es am (resultOf a) r)
         (omega (arith, su, op .counted))
-        (subst (λ z. Carries (displayOf held) z) es ca (resultOf a) r)
+        (subst (λ z. Carries (displayOf (held .state)) z) es ca (resultOf a) r)
         (subst Sized es (op .sized) (resultOf a) r rf)
         po
 
     go : (b : Bool) → noAnswer o a ≡ b →
         Went s held before (giveAnswer a r) (cond b (refused 24 s) (moved g number k (answeredOf g p o m (resultOf a) r)) .service)
-    go true x = stayed s held before (giveAnswer a r) runs (pol ∙ ap (λ z. cond z (policyOf s held) (proceeds (policyOf s held) i)) x)
-    go false x = step (op .more) (op .most) (op .sum) (op .carries) (pol ∙ ap (λ z. cond z (policyOf s held) (proceeds (policyOf s held) i)) x)
+    go true x = stayed s held before (giveAnswer a r) runs (pol ∙ ap (λ z. cond z (policyOf s held) (proceeds (policyOf s held) k i)) x)
+    go false x = step (op .more) (op .most) (op .sum) (op .carries) (pol ∙ ap (λ z. cond z (policyOf s held) (proceeds (policyOf s held) k i)) x)
 
 -- an opening
 
-pub open-is : (g : Registration) (p : Phase) (m : Memory) → isAt (standOf (standsAt g p m)) ≡ isOpen p
-open-is g (Phase.Closed a) m = refl
-open-is g (Phase.Leaving i p f) m = refl
-open-is g (Phase.Switching l old f new) m = refl
-open-is g (Phase.Connecting s new) m = refl
-open-is g (Phase.Providing p c) m = refl
+pub open-is : (n : ℕ) (g : Registration) (p : Phase) (m : Memory) → isAt (standOf n (standsAt g p m)) ≡ isOpen p
+open-is n g (Phase.Closed a) m = refl
+open-is n g (Phase.Leaving i p f) m = refl
+open-is n g (Phase.Switching l old f new) m = refl
+open-is n g (Phase.Connecting s new) m = refl
+open-is n g (Phase.Providing p c) m = refl
 
 registered : (a b c d : Bool) → (let n : ℕ = cond a 23 (cond b 24 (cond c 25 (cond d 28 0))) in n ≡ 0) → a ≡ false
 registered true b c d e = absurd (omega (arith, e))
@@ -256,7 +278,7 @@ module _ (g : Registration) (number k : ℕ) (kind device detail : ℕ) (r : Rec
   conditions waits = firstRefused (openConditions (g .ports) (g .chargers) waits number kind device detail)
 
   -- between events: the machine and the definition open the same event
-  open-closed : (a : Result) (m : Memory) (held before : InternalState) → Limits g → RecordsFit r → number ≤ 4294967295 → Closed k a m held before →
+  open-closed : (a : Result) (m : Memory) (held : Last) (before : InternalState) → Limits g → RecordsFit r → number ≤ 4294967295 → Closed k a m held before →
       Went (service g number k (Phase.Closed a) m) held before (openEvent kind device detail r) (openOf (service g number k (Phase.Closed a) m) kind device detail r .service)
   open-closed a m held before le rf nb st = go (eqb (conditions false) 0) refl (eqb kind 5) refl
     where
@@ -267,7 +289,10 @@ module _ (g : Registration) (number k : ℕ) (kind device detail : ℕ) (r : Rec
       runs = record { limits = le; number = nb; state = st }
 
       i : Interaction
-      i = event g device (eventOf kind detail) held r
+      i = event g device (eventOf kind detail) (held .state) r
+
+      same-state : m .state ≡ held .state
+      same-state = ap (λ (x : Last). x .state) (st .same)
 
       t : InternalState → Turn
       t x = processOf g (remember x noNotices) device (eventOf kind detail) r
@@ -278,14 +303,14 @@ module _ (g : Registration) (number k : ℕ) (kind device detail : ℕ) (r : Rec
           subst (λ z. Went s held before (openEvent kind device detail r) z)
           (sym (ap (λ b. cond b (cond (eqb kind 5) (stepped (Step.Closed Result.Ok) s) (openedOf s device (eventOf kind detail) r)) (refused (conditions false) s) .service) ex))
           (stayed s held before (openEvent kind device detail r) runs
-          (ap (λ b. cond b (cond (eqb kind 5) (policyOf s held) (proceeds (policyOf s held) i)) (policyOf s held)) ex))
+          (ap (λ b. cond b (cond (eqb kind 5) (policyOf s held) (proceeds (policyOf s held) 0 i)) (policyOf s held)) ex))
       go true ex true ey =
           subst (λ z. Went s held before (openEvent kind device detail r) z)
           (sym (ap (λ b. cond b (cond (eqb kind 5) (stepped (Step.Closed Result.Ok) s) (openedOf s device (eventOf kind detail) r)) (refused (conditions false) s) .service) ex
           ∙ ap (λ b. cond b (stepped (Step.Closed Result.Ok) s) (openedOf s device (eventOf kind detail) r) .service) ey))
           (stayed s held before (openEvent kind device detail r) runs
-          (ap (λ b. cond b (cond (eqb kind 5) (policyOf s held) (proceeds (policyOf s held) i)) (policyOf s held)) ex
-          ∙ ap (λ b. cond b (policyOf s held) (proceeds (policyOf s held) i)) ey))
+          (ap (λ b. cond b (cond (eqb kind 5) (policyOf s held) (proceeds (policyOf s held) 0 i)) (policyOf s held)) ex
+          ∙ ap (λ b. cond b (policyOf s held) (proceeds (policyOf s held) 0 i)) ey))
       go true ex false ey =
           let nr : notRegistered (g .ports) (g .chargers) kind device ≡ false =
           registered (notRegistered (g .ports) (g .chargers) kind device) (unknownEvent kind detail) false (numbersUsed kind number) (eqb-true (conditions false) 0 ex) in
@@ -295,16 +320,16 @@ module _ (g : Registration) (number k : ℕ) (kind device detail : ℕ) (r : Rec
           subst (λ z. Went s held before (openEvent kind device detail r) z)
           (sym (ap (λ b. cond b (cond (eqb kind 5) (stepped (Step.Closed Result.Ok) s) (openedOf s device (eventOf kind detail) r)) (refused (conditions false) s) .service) ex
           ∙ (ap (λ b. cond b (stepped (Step.Closed Result.Ok) s) (openedOf s device (eventOf kind detail) r) .service) ey
-          ∙ ap (λ x. moved g number 0 (t x) .service) (st .same))))
-          (went g number 0 k (3 + 4 * g .chargers) (t held) (Phase.Closed a) m held before (openEvent kind device detail r) i le lt
-          (opened g held device (eventOf kind detail) r) (opened-fits g held device (eventOf kind detail) r)
-          (event-bound g device (eventOf kind detail) held r) (omega (arith, le .chargers)) (event-carries g device (eventOf kind detail) held r)
-          (event-sized g (le .config) (le .ports) device (eventOf kind detail) held r port (subst StateFits (st .same) (st .sized .state)) rf)
-          (ap (λ b. cond b (cond (eqb kind 5) (policyOf s held) (proceeds (policyOf s held) i)) (policyOf s held)) ex
-          ∙ ap (λ b. cond b (policyOf s held) (proceeds (policyOf s held) i)) ey))
+          ∙ ap (λ x. moved g number 0 (t x) .service) same-state)))
+          (went g number 0 k (3 + 4 * g .chargers) (t (held .state)) (Phase.Closed a) m held before (openEvent kind device detail r) i le lt
+          (opened g (held .state) device (eventOf kind detail) r) (opened-fits g (held .state) device (eventOf kind detail) r)
+          (event-bound g device (eventOf kind detail) (held .state) r) (omega (arith, le .chargers)) (event-carries g device (eventOf kind detail) (held .state) r)
+          (event-sized g (le .config) (le .ports) device (eventOf kind detail) (held .state) r port (subst StateFits same-state (st .sized .state)) rf)
+          (ap (λ b. cond b (cond (eqb kind 5) (policyOf s held) (proceeds (policyOf s held) 0 i)) (policyOf s held)) ex
+          ∙ ap (λ b. cond b (policyOf s held) (proceeds (policyOf s held) 0 i)) ey))
 
   -- at an order: 23, 24 or 25
-  open-open : (p : Phase) (m : Memory) (held before : InternalState) → isOpen p ≡ true → Runs (service g number k p m) held before →
+  open-open : (p : Phase) (m : Memory) (held : Last) (before : InternalState) → isOpen p ≡ true → Runs (service g number k p m) held before →
       Went (service g number k p m) held before (openEvent kind device detail r) (openOf (service g number k p m) kind device detail r .service)
   open-open p m held before io runs = go (eqb (conditions true) 0) refl
     where
@@ -312,13 +337,13 @@ module _ (g : Registration) (number k : ℕ) (kind device detail : ℕ) (r : Rec
       s = service g number k p m
 
       i : Interaction
-      i = event g device (eventOf kind detail) held r
+      i = event g device (eventOf kind detail) (held .state) r
 
       at-machine : openOf s kind device detail r .service ≡ cond (eqb (conditions true) 0) (cond (eqb kind 5) (stepped (Step.Closed Result.Ok) s) (openedOf s device (eventOf kind detail) r)) (refused (conditions true) s) .service
       at-machine = ap (λ b. cond (eqb (conditions b) 0) (cond (eqb kind 5) (stepped (Step.Closed Result.Ok) s) (openedOf s device (eventOf kind detail) r)) (refused (conditions b) s) .service) io
 
-      at-policy : policyAfter (policyOf s held) (openEvent kind device detail r) ≡ cond (eqb (conditions true) 0) (cond (eqb kind 5) (policyOf s held) (proceeds (policyOf s held) i)) (policyOf s held)
-      at-policy = ap (λ b. cond (eqb (conditions b) 0) (cond (eqb kind 5) (policyOf s held) (proceeds (policyOf s held) i)) (policyOf s held)) (open-is g p m ∙ io)
+      at-policy : policyAfter (policyOf s held) (openEvent kind device detail r) ≡ cond (eqb (conditions true) 0) (cond (eqb kind 5) (policyOf s held) (proceeds (policyOf s held) 0 i)) (policyOf s held)
+      at-policy = ap (λ b. cond (eqb (conditions b) 0) (cond (eqb kind 5) (policyOf s held) (proceeds (policyOf s held) 0 i)) (policyOf s held)) (open-is k g p m ∙ io)
 
       go : (x : Bool) → eqb (conditions true) 0 ≡ x → Went s held before (openEvent kind device detail r) (openOf s kind device detail r .service)
       go true ex = absurd (eqb-false 0 0 (not-open (notRegistered (g .ports) (g .chargers) kind device) (unknownEvent kind detail) true (numbersUsed kind number) (eqb-true (conditions true) 0 ex)) refl)
@@ -326,11 +351,11 @@ module _ (g : Registration) (number k : ℕ) (kind device detail : ℕ) (r : Rec
           subst (λ z. Went s held before (openEvent kind device detail r) z)
           (sym (at-machine ∙ ap (λ b. cond b (cond (eqb kind 5) (stepped (Step.Closed Result.Ok) s) (openedOf s device (eventOf kind detail) r)) (refused (conditions true) s) .service) ex))
           (stayed s held before (openEvent kind device detail r) runs
-          (at-policy ∙ ap (λ b. cond b (cond (eqb kind 5) (policyOf s held) (proceeds (policyOf s held) i)) (policyOf s held)) ex))
+          (at-policy ∙ ap (λ b. cond b (cond (eqb kind 5) (policyOf s held) (proceeds (policyOf s held) 0 i)) (policyOf s held)) ex))
 
 -- every call
 
-goes-at : (g : Registration) (number k : ℕ) (p : Phase) (m : Memory) (held before : InternalState) (c : Call) → CallFits c → Runs (service g number k p m) held before →
+goes-at : (g : Registration) (number k : ℕ) (p : Phase) (m : Memory) (held : Last) (before : InternalState) (c : Call) → CallFits c → Runs (service g number k p m) held before →
     Went (service g number k p m) held before c (after (service g number k p m) c)
 goes-at g number k p m held before writePacket cf x = stayed (service g number k p m) held before writePacket x refl
 goes-at g number k p m held before writePicture cf x = stayed (service g number k p m) held before writePicture x refl
@@ -360,5 +385,5 @@ goes-at g number k (Phase.Connecting s new) m held before (openEvent kind device
 goes-at g number k (Phase.Providing p c) m held before (openEvent kind device detail r) cf x =
     open-open g number k kind device detail r (Phase.Providing p c) m held before refl x
 
-pub goes : (s : Service) (held before : InternalState) (c : Call) → CallFits c → Runs s held before → Went s held before c (after s c)
+pub goes : (s : Service) (held : Last) (before : InternalState) (c : Call) → CallFits c → Runs s held before → Went s held before c (after s c)
 goes s held before c cf x = goes-at (s .registration) (s .number) (s .orders) (s .phase) (s .memory) held before c cf x

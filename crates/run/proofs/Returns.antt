@@ -1,18 +1,28 @@
--- What a call returns is what the definition says: turned back by the same number, or the same order or close, since the machine stands for what is
--- left of the event.
+-- What a call returns is what the definition says, whichever it is: turned back by the same number, or the same order or close, since the
+-- machine stands for what is left of the event; and the same packet and picture, since it has what the event closed last has left.
 use mathlib.Core.Path.{_≡_, refl, sym, ap, _∙_, subst}
 use mathlib.Core.Bool.{Bool, true, false, cond}
-use mathlib.Core.List.{List, [], _∷_}
-use Prim.Native.Nat.{ℕ, _≤_}
+use mathlib.Core.List.{List, [], _∷_, _++_}
+use Prim.Native.Nat.{ℕ}
 use lib.Dec.{eqb}
 use borrow.Author.Tests.{eqb-false}
+use Rattle.power_policy_interface.specs.Psu.{answerByte}
 use Rattle.power_policy_interface.specs.declared.psu.Result.{Result}
+use Rattle.power_policy_interface.specs.declared.service.event.Event.{Event}
+use Rattle.display.specs.Notices.{empty, pushed}
+use Rattle.display.specs.declared.OptionAvailableConsumer.{OptionAvailableConsumer}
+use Rattle.display.specs.declared.notices.Notices as display
+use Rattle.display.specs.declared.packet.EventPacket.{EventPacket}
 use Rattle.event.specs.Memory.{noNotices}
 use Rattle.event.specs.Phase.{orderOf, switchOrder, connectOrder}
+use Rattle.event.specs.declared.memory.DisconnectedNotice.{DisconnectedNotice}
 use Rattle.event.specs.declared.memory.InternalState.{InternalState}
 use Rattle.event.specs.declared.memory.Memory.{Memory}
+use Rattle.event.specs.declared.memory.Notices.{Notices}
+use Rattle.event.specs.declared.memory.ProviderNotice.{ProviderNotice}
 use Rattle.event.specs.declared.memory.Records.{Records}
 use Rattle.event.specs.declared.memory.Registration.{Registration}
+use Rattle.event.specs.declared.memory.UnconstrainedNotice.{UnconstrainedNotice}
 use Rattle.event.specs.declared.phase.OptionOrder.{OptionOrder}
 use Rattle.event.specs.declared.phase.Order.{Order}
 use Rattle.event.specs.declared.phase.Phase.{Phase}
@@ -20,20 +30,24 @@ use Rattle.event.specs.declared.phase.Turn.{Turn}
 use Rattle.process.specs.Process.{answeredOf, processOf}
 use Rattle.update.specs.Update.{remember}
 use Rattle.service.specs.Refusals.{firstRefused, openConditions, notRegistered, unknownEvent, numbersUsed, unknownAnswer, isOpen}
-use Rattle.service.specs.Service.{stepped, moved, resultOf, answerOf, eventOf, openedOf, openOf, refused}
+use Rattle.service.specs.Service.{answerIn, stepped, moved, resultOf, answerOf, eventOf, openedOf, openOf, refused}
 use Rattle.service.specs.declared.Service.{Service}
 use Rattle.service.specs.declared.Step.{Step}
 use Rattle.service.specs.declared.Stepped.{Stepped}
-use Rattle.interaction.specs.Action.{Interaction, done, ask}
+use Rattle.send.specs.Send.{displayOf, pushProvider, pushDisconnected, pushConnected, pushUnconstrained, noticesOf, packetConditions, sendPacket, sendPicture}
+use Rattle.send.specs.declared.SentPacket.{SentPacket}
+use Rattle.send.specs.declared.SentPicture.{SentPicture}
+use Rattle.interaction.specs.Action.{ask}
 use Rattle.interaction.specs.Interaction.{close, event}
-use Rattle.interaction.specs.Machine.{heldOf, rest, standsAt, standsFor}
+use Rattle.interaction.specs.Machine.{ofProvider, ofDisconnected, ofConnected, ofUnconstrained, heldOf, listed, rest, standsAt, standsFor}
 use Rattle.interaction.specs.Served.{noAnswer, brings}
 use Rattle.interaction.proofs.Follows.{opened, leaving-answered, switching-answered, connecting-answered, providing-answered}
 use Rattle.interaction.proofs.Serves.{service, moved-brings}
-use Rattle.run.specs.Policy.{Call, Policy, isAt}
-use Rattle.run.specs.Run.{after, openTo, answerTo, services, policies}
+use Rattle.run.specs.Policy.{Call, isAt}
+use Rattle.run.specs.Run.{after, openTo, answerTo, pushedAll, packetTo, pictureTo, services, policies}
 use Rattle.run.specs.Sized.{CallsFit}
-use Rattle.run.proofs.Matches.{standOf, policyOf, open-is, Closed, StateAt, Runs, Went, goes}
+use Rattle.run.specs.Demands.{standOf, orderAt, Equal}
+use Rattle.run.proofs.Matches.{Last, policyOf, open-is, Closed, StateAt, Runs, goes}
 
 closed-step : (b : Bool) (x : Stepped) (s : Service) → cond (eqb (cond b 24 26) 0) x (refused (cond b 24 26) s) .step ≡ Step.Refused (cond b 24 26)
 closed-step true x s = refl
@@ -47,13 +61,13 @@ open-step false x s = refl
 answer-returns : (g : Registration) (number k : ℕ) (p : Phase) (m : Memory) (o : Order) (a : ℕ) (r : Records) → orderOf p ≡ OptionOrder.Some o →
     standsAt g p m ≡ ask o (λ x y. rest g p x (heldOf m) y close) →
     standsFor g (answeredOf g p o m (resultOf a) r) ≡ rest g p (resultOf a) (heldOf m) r close →
-    answerOf (service g number k p m) a r .step ≡ answerTo (standOf (standsAt g p m)) a r
+    answerOf (service g number k p m) a r .step ≡ answerTo (standOf k (standsAt g p m)) a r
 answer-returns g number k p m o a r eo es e =
     let s = service g number k p m in
     let t = answeredOf g p o m (resultOf a) r in
     rw eo (open-step (noAnswer o a) (moved g number k t) s)
     ∙ (ap (λ z. cond (noAnswer o a) (Step.Refused 24) z) (moved-brings g number k (t .phase) (t .memory) ∙ ap brings e)
-    ∙ ap (λ z. answerTo (standOf z) a r) (sym es))
+    ∙ ap (λ z. answerTo (standOf k z) a r) (sym es))
 
 step-of : (x : Bool) (y : Bool) (n : ℕ) (s : Service) (z : Stepped) → cond x (cond y (stepped (Step.Closed Result.Ok) s) z) (refused n s) .step ≡ cond x (cond y (Step.Closed Result.Ok) (z .step)) (Step.Refused n)
 step-of true true n s z = refl
@@ -68,19 +82,19 @@ module _ (g : Registration) (number k : ℕ) (kind device detail : ℕ) (r : Rec
   abbrev says : Bool → Step → Step
   says waits z = cond (eqb (conditions waits) 0) (cond (eqb kind 5) (Step.Closed Result.Ok) z) (Step.Refused (conditions waits))
 
-  open-returns : (p : Phase) (m : Memory) (held : InternalState) → (isOpen p ≡ false → m .state ≡ held) →
+  open-returns : (p : Phase) (m : Memory) (held : Last) → (isOpen p ≡ false → m .state ≡ held .state) →
       openOf (service g number k p m) kind device detail r .step ≡ openTo (policyOf (service g number k p m) held) kind device detail r
   open-returns p m held same =
       step-of (eqb (conditions (isOpen p)) 0) (eqb kind 5) (conditions (isOpen p)) (service g number k p m) (openedOf (service g number k p m) device (eventOf kind detail) r)
-      ∙ (go (isOpen p) refl ∙ ap (λ w. says w (brings (event g device (eventOf kind detail) held r))) (sym (open-is g p m)))
+      ∙ (go (isOpen p) refl ∙ ap (λ w. says w (brings (event g device (eventOf kind detail) (held .state) r))) (sym (open-is k g p m)))
     where
       turn : InternalState → Turn
       turn x = processOf g (remember x noNotices) device (eventOf kind detail) r
 
-      opens-same : isOpen p ≡ false → moved g number 0 (turn (m .state)) .step ≡ brings (event g device (eventOf kind detail) held r)
+      opens-same : isOpen p ≡ false → moved g number 0 (turn (m .state)) .step ≡ brings (event g device (eventOf kind detail) (held .state) r)
       opens-same e =
           ap (λ x. moved g number 0 (turn x) .step) (same e)
-          ∙ (moved-brings g number 0 (turn held .phase) (turn held .memory) ∙ ap brings (opened g held device (eventOf kind detail) r))
+          ∙ (moved-brings g number 0 (turn (held .state) .phase) (turn (held .state) .memory) ∙ ap brings (opened g (held .state) device (eventOf kind detail) r))
 
       refused-open : (z w : Step) → says true z ≡ says true w
       refused-open z w = tested (notRegistered (g .ports) (g .chargers) kind device) (unknownEvent kind detail) (numbersUsed kind number)
@@ -90,19 +104,26 @@ module _ (g : Registration) (number k : ℕ) (kind device detail : ℕ) (r : Rec
           tested false true d = refl
           tested false false d = refl
 
-      go : (w : Bool) → isOpen p ≡ w → says w (moved g number 0 (turn (m .state)) .step) ≡ says w (brings (event g device (eventOf kind detail) held r))
-      go true e = refused-open (moved g number 0 (turn (m .state)) .step) (brings (event g device (eventOf kind detail) held r))
+      go : (w : Bool) → isOpen p ≡ w → says w (moved g number 0 (turn (m .state)) .step) ≡ says w (brings (event g device (eventOf kind detail) (held .state) r))
+      go true e = refused-open (moved g number 0 (turn (m .state)) .step) (brings (event g device (eventOf kind detail) (held .state) r))
       go false e = ap (λ z. says false z) (opens-same e)
 
-closed-same : (g : Registration) (number k : ℕ) (p : Phase) (m : Memory) (held before : InternalState) → StateAt g number k p m held before → isOpen p ≡ false → m .state ≡ held
-closed-same g number k (Phase.Closed a) m held before c o = c .same
+closed-same : (g : Registration) (number k : ℕ) (p : Phase) (m : Memory) (held : Last) (before : InternalState) → StateAt g number k p m held before → isOpen p ≡ false → m .state ≡ held .state
+closed-same g number k (Phase.Closed a) m held before c o = ap (λ (x : Last). x .state) (c .same)
 closed-same g number k (Phase.Leaving i p f) m held before c o = absurd (eqb-false 0 0 o refl)
 closed-same g number k (Phase.Switching l old f new) m held before c o = absurd (eqb-false 0 0 o refl)
 closed-same g number k (Phase.Connecting s new) m held before c o = absurd (eqb-false 0 0 o refl)
 closed-same g number k (Phase.Providing p d) m held before c o = absurd (eqb-false 0 0 o refl)
 
-answers-at : (g : Registration) (number k : ℕ) (p : Phase) (m : Memory) (held before : InternalState) (n : ℕ) (r : Records) → Runs (service g number k p m) held before →
-    answerOf (service g number k p m) n r .step ≡ answerTo (standOf (standsAt g p m)) n r
+closed-answer : (g : Registration) (number k : ℕ) (p : Phase) (m : Memory) (held : Last) (before : InternalState) → StateAt g number k p m held before → isOpen p ≡ false → answerIn p ≡ held .answer
+closed-answer g number k (Phase.Closed a) m held before c o = ap (λ (x : Last). x .answer) (c .same)
+closed-answer g number k (Phase.Leaving i p f) m held before c o = absurd (eqb-false 0 0 o refl)
+closed-answer g number k (Phase.Switching l old f new) m held before c o = absurd (eqb-false 0 0 o refl)
+closed-answer g number k (Phase.Connecting s new) m held before c o = absurd (eqb-false 0 0 o refl)
+closed-answer g number k (Phase.Providing p d) m held before c o = absurd (eqb-false 0 0 o refl)
+
+answers-at : (g : Registration) (number k : ℕ) (p : Phase) (m : Memory) (held : Last) (before : InternalState) (n : ℕ) (r : Records) → Runs (service g number k p m) held before →
+    answerOf (service g number k p m) n r .step ≡ answerTo (standOf k (standsAt g p m)) n r
 answers-at g number k (Phase.Closed a) m held before n r x = closed-step (unknownAnswer OptionOrder.None n) _ (service g number k (Phase.Closed a) m)
 answers-at g number k (Phase.Leaving i p f) m held before n r x =
     answer-returns g number k (Phase.Leaving i p f) m (Order.Detach i) n r refl refl (leaving-answered g i p f m (x .limits .chargers) (x .state .fits) (resultOf n) r)
@@ -113,21 +134,96 @@ answers-at g number k (Phase.Connecting s new) m held before n r x =
 answers-at g number k (Phase.Providing p d) m held before n r x =
     answer-returns g number k (Phase.Providing p d) m (Order.ConnectProvider p d) n r refl refl (providing-answered g p d m (x .state .fits) (resultOf n) r)
 
--- after any list of calls the machine is where the definition is, and the next opening or answer returns what the definition says
-pub record Equal (s : Service) (p : Policy) : Type 0 where
-  pub held : InternalState
-  pub same : p ≡ policyOf s held
-  pub opening : (kind device detail : ℕ) (r : Records) → openOf s kind device detail r .step ≡ openTo p kind device detail r
-  pub answering : (a : ℕ) (r : Records) → answerOf s a r .step ≡ answerTo (p .stand) a r
+-- the writes
 
-pub run-equal : (l : List Call) (s : Service) (held before : InternalState) → CallsFit l → Runs s held before → Equal (services s l) (policies (policyOf s held) l)
+-- pushed one list after the other, and each notice as `send` pushes it
+
+pushed-on : (n : display.Notices) (l m : List Event) → pushedAll n (l ++ m) ≡ pushedAll (pushedAll n l) m
+pushed-on n [] m = refl
+pushed-on n (e ∷ l) m = pushed-on (pushed n e) l m
+
+provider-pushed : (n : display.Notices) (p : ProviderNotice) → pushProvider n p ≡ pushedAll n (ofProvider p)
+provider-pushed n ProviderNotice.None = refl
+provider-pushed n (ProviderNotice.Disconnected p) = refl
+provider-pushed n (ProviderNotice.Connected p c) = refl
+
+disconnected-pushed : (n : display.Notices) (d : DisconnectedNotice) → pushDisconnected n d ≡ pushedAll n (ofDisconnected d)
+disconnected-pushed n DisconnectedNotice.None = refl
+disconnected-pushed n (DisconnectedNotice.Some p f) = refl
+
+connected-pushed : (n : display.Notices) (c : OptionAvailableConsumer) → pushConnected n c ≡ pushedAll n (ofConnected c)
+connected-pushed n OptionAvailableConsumer.None = refl
+connected-pushed n (OptionAvailableConsumer.Some c) = refl
+
+unconstrained-pushed : (n : display.Notices) (u : UnconstrainedNotice) → pushUnconstrained n u ≡ pushedAll n (ofUnconstrained u)
+unconstrained-pushed n UnconstrainedNotice.None = refl
+unconstrained-pushed n (UnconstrainedNotice.Some u) = refl
+
+notices-pushed : (n : Notices) → noticesOf n ≡ pushedAll empty (listed n)
+notices-pushed n =
+    let p = ofProvider (n .provider) in
+    let d = ofDisconnected (n .disconnected) in
+    let c = ofConnected (n .connected) in
+    let u = ofUnconstrained (n .unconstrained) in
+    unconstrained-pushed (pushConnected (pushDisconnected (pushProvider empty (n .provider)) (n .disconnected)) (n .connected)) (n .unconstrained)
+    ∙ (ap (λ x. pushedAll x u)
+    (connected-pushed (pushDisconnected (pushProvider empty (n .provider)) (n .disconnected)) (n .connected)
+    ∙ ap (λ x. pushedAll x c) (disconnected-pushed (pushProvider empty (n .provider)) (n .disconnected) ∙ ap (λ x. pushedAll x d) (provider-pushed empty (n .provider))))
+    ∙ sym
+    (pushed-on empty p (d ++ (c ++ u))
+    ∙ (pushed-on (pushedAll empty p) d (c ++ u) ∙ pushed-on (pushedAll (pushedAll empty p) d) c u)))
+
+module _ (g : Registration) (number k : ℕ) where
+  packet-at : (p : Phase) (m : Memory) (held : Last) (before : InternalState) → StateAt g number k p m held before →
+      sendPacket (service g number k p m) ≡ packetTo (policyOf (service g number k p m) held)
+  packet-at (Phase.Closed a) m held before c =
+      ap (λ x. sentOf (record { number = number; answer = answerByte a; orders = k; notices = x })) (notices-pushed (m .notices))
+      ∙ ap (λ (x : Last). sentOf (record { number = number; answer = answerByte (x .answer); orders = x .orders; notices = pushedAll empty (x .notices) })) (c .same)
+    where
+      sentOf : EventPacket → SentPacket
+      sentOf e =
+          let n : ℕ = firstRefused (packetConditions false number) in
+          cond (eqb n 0) (SentPacket.Packet e) (SentPacket.Refused n)
+  packet-at (Phase.Leaving i p f) m held before c = refl
+  packet-at (Phase.Switching l old f new) m held before c = refl
+  packet-at (Phase.Connecting s new) m held before c = refl
+  packet-at (Phase.Providing p d) m held before c = refl
+
+  picture-at : (p : Phase) (m : Memory) (held : Last) (before : InternalState) → StateAt g number k p m held before →
+      sendPicture (service g number k p m) ≡ pictureTo (policyOf (service g number k p m) held)
+  picture-at (Phase.Closed a) m held before c =
+      ap (λ (x : Last). SentPicture.Picture (record { number = number; display = displayOf (x .state) })) (c .same)
+  picture-at (Phase.Leaving i p f) m held before c = refl
+  picture-at (Phase.Switching l old f new) m held before c = refl
+  picture-at (Phase.Connecting s new) m held before c = refl
+  picture-at (Phase.Providing p d) m held before c = refl
+
+  -- the open order
+  order-at : (p : Phase) (m : Memory) → orderOf p ≡ orderAt (standOf k (standsAt g p m))
+  order-at (Phase.Closed a) m = refl
+  order-at (Phase.Leaving i p f) m = refl
+  order-at (Phase.Switching l old f new) m = refl
+  order-at (Phase.Connecting s new) m = refl
+  order-at (Phase.Providing p d) m = refl
+
+pub run-equal : (l : List Call) (s : Service) (held : Last) (before : InternalState) → CallsFit l → Runs s held before → Equal (services s l) (policies (policyOf s held) l)
 run-equal [] s held before cf x = record {
-  held = held;
-  same = refl;
+  registered = refl;
+  number = refl;
+  state = λ e.
+      closed-same (s .registration) (s .number) (s .orders) (s .phase) (s .memory) held before (x .state)
+      (sym (open-is (s .orders) (s .registration) (s .phase) (s .memory)) ∙ ap isAt e);
+  answer = λ e.
+      closed-answer (s .registration) (s .number) (s .orders) (s .phase) (s .memory) held before (x .state)
+      (sym (open-is (s .orders) (s .registration) (s .phase) (s .memory)) ∙ ap isAt e);
+  order = order-at (s .registration) (s .number) (s .orders) (s .phase) (s .memory);
+  stand = refl;
   opening = λ kind device detail r.
       open-returns (s .registration) (s .number) (s .orders) kind device detail r (s .phase) (s .memory) held
       (λ o. closed-same (s .registration) (s .number) (s .orders) (s .phase) (s .memory) held before (x .state) o);
   answering = λ a r. answers-at (s .registration) (s .number) (s .orders) (s .phase) (s .memory) held before a r x;
+  packet = packet-at (s .registration) (s .number) (s .orders) (s .phase) (s .memory) held before (x .state);
+  picture = picture-at (s .registration) (s .number) (s .orders) (s .phase) (s .memory) held before (x .state);
 }
 run-equal (c ∷ l) s held before cf x =
     let t = goes s held before c (cf .0) x in

@@ -6,7 +6,7 @@ use Prim.Native.Nat.{ℕ, zero, suc, min, _<_, _≤_}
 use native.Mathlib.Nat.{min-le-left}
 use native.Mathlib.Omega.{arith}
 use lib.Dec.{leb, ltb}
-use borrow.Author.Tests.{le-leb, leb-true, ltb-true}
+use borrow.Author.Tests.{le-leb, ltb-true}
 use Rattle.power_policy_interface.specs.Psu.{canConnectConsumerOf, canConnectProviderOf}
 use Rattle.power_policy_interface.specs.Service.{sameUnconstrained}
 use Rattle.power_policy_interface.specs.Capability.{maxPowerMw}
@@ -16,16 +16,14 @@ use Rattle.power_policy_interface.specs.declared.capability.OptionConsumerPower
 use Rattle.power_policy_interface.specs.declared.capability.OptionProviderPowerCapability.{OptionProviderPowerCapability}
 use Rattle.power_policy_interface.specs.declared.capability.ProviderPowerCapability.{ProviderPowerCapability}
 use Rattle.power_policy_interface.specs.declared.psu.Result.{Result}
-use Rattle.power_policy_interface.specs.declared.psu.State.{State}
 use Rattle.power_policy_interface.specs.declared.psu.event.EventData.{EventData}
 use Rattle.power_policy_interface.specs.declared.service.event.Event.{Event}
 use Rattle.display.specs.Providers.{insertOf, removeOf}
 use Rattle.display.specs.declared.AvailableConsumer.{AvailableConsumer}
 use Rattle.display.specs.declared.OptionAvailableConsumer.{OptionAvailableConsumer}
 use Rattle.display.specs.declared.providers.Providers.{Providers}
-use Rattle.display.specs.declared.providers.Removed.{Removed}
 use Rattle.power_policy_service.specs.Choice.{Chosen}
-use Rattle.power_policy_service.specs.Consumer.{bestOf, eligible, offered, meets}
+use Rattle.power_policy_service.specs.Consumer.{bestOf, offered, meets}
 use Rattle.power_policy_service.specs.Provider.{totalOf, totalWith, powerStateOf, grantOf}
 use Rattle.power_policy_service.specs.Rows.{psuAt}
 use Rattle.power_policy_service.specs.declared.config.Config.{Config}
@@ -221,7 +219,7 @@ eligible-fits m (OptionConsumerPowerCapability.Some d) c e f = go (meets m d) re
     go false x =
         absurd (not-both {o = OptionConsumerPowerCapability.None} {d = c} refl (sym (ap (λ b. cond b (OptionConsumerPowerCapability.Some d) OptionConsumerPowerCapability.None) x) ∙ e))
 
-best-fits : (m : OptionMilliwatts) (current : OptionAvailableConsumer) (r : Records) (n : ℕ) → n ≤ 16 → RecordsFit r → consumerFits (bestOf m current (r .psus) n) ≡ true
+pub best-fits : (m : OptionMilliwatts) (current : OptionAvailableConsumer) (r : Records) (n : ℕ) → n ≤ 16 → RecordsFit r → consumerFits (bestOf m current (r .psus) n) ≡ true
 best-fits m current r n l w = go (bestOf m current (r .psus) n) (chosen m current (r .psus) n)
   where
     go : (x : OptionAvailableConsumer) → Chosen m current (r .psus) n x → consumerFits x ≡ true
@@ -231,7 +229,7 @@ best-fits m current r n l w = go (bestOf m current (r .psus) n) (chosen m curren
         both (leb (c .psu) 15) (capabilityFits (c .«consumer_power_capability» .capability)) (le-leb (c .psu) 15 (omega (arith, p, l)))
         (eligible-fits m (psuAt (r .psus) (c .psu) .«consumer_capability») (c .«consumer_power_capability») (b .offer .offered) (w (c .psu) (omega (arith, p, l)) .0))
 
-psu-fits : (r : Records) (p : ℕ) → RecordsFit r → PsuFits (psuOf r p)
+pub psu-fits : (r : Records) (p : ℕ) → RecordsFit r → PsuFits (psuOf r p)
 psu-fits r p w = go (ltb p 16) refl
   where
     go : (b : Bool) → ltb p 16 ≡ b → PsuFits (cond b (psuAt (r .psus) p) noPsu)
@@ -242,13 +240,13 @@ counted-le : (b : Bool) (n m : ℕ) → n ≤ m → counted b n ≤ suc m
 counted-le true n m l = omega (arith, l)
 counted-le false n m l = omega (arith, l)
 
-available-le : (r : Records) (n : ℕ) → availableOf r n ≤ n
+pub available-le : (r : Records) (n : ℕ) → availableOf r n ≤ n
 available-le r zero = omega arith
 available-le r (suc n) = counted-le (offersUnconstrained (psuOf r n)) (availableOf r n) n (available-le r n)
 
 -- a grant takes its figures from the configuration or the request
 
-grant-fits : (c : Config) (s : PowerState) (q : ProviderPowerCapability) → ConfigFits c → capabilityFits (q .capability) ≡ true → capabilityFits (grantOf c s q .capability) ≡ true
+pub grant-fits : (c : Config) (s : PowerState) (q : ProviderPowerCapability) → ConfigFits c → capabilityFits (q .capability) ≡ true → capabilityFits (grantOf c s q .capability) ≡ true
 grant-fits c PowerState.Limited q f e = f .limited
 grant-fits c PowerState.Unlimited q f e = go (ltb (maxPowerMw (q .capability)) (maxPowerMw (c .«provider_unlimited»)))
   where

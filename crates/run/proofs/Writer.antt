@@ -2,9 +2,9 @@
 -- and an event has one packet. By induction on the calls; while the number stays, what is held stays.
 use mathlib.Core.Path.{_≡_, refl, sym, ap, _∙_, subst}
 use mathlib.Core.Bool.{Bool, true, false, cond, not, _&&_}
-use mathlib.Core.List.{List, [], _∷_, _++_}
-use mathlib.Core.Logic.{_⊎_, inl, inr, ⊎-elim}
-use Prim.Native.Nat.{ℕ, zero, suc, _+_, _<_, _≤_}
+use mathlib.Core.List.{List, [], _∷_}
+use mathlib.Core.Logic.{⊎-elim}
+use Prim.Native.Nat.{ℕ, suc, _<_, _≤_}
 use native.Mathlib.Omega.{arith}
 use lib.Dec.{leb, ltb, eqb}
 use borrow.Author.Tests.{eq-eqb, ne-eqb, eqb-true, eqb-false, lt-ltb, le-leb}
@@ -41,7 +41,7 @@ use Rattle.link.specs.Source.{numberIn}
 use Rattle.run.specs.Run.{after, Writes, Wrote, policies}
 use Rattle.run.specs.Sized.{CallsFit}
 use Rattle.run.proofs.Sized.{both}
-use Rattle.run.proofs.Matches.{policyOf, Closed, StateAt, Runs, Moved, stays, asks, closes, Went, goes}
+use Rattle.run.proofs.Matches.{Last, policyOf, Closed, StateAt, Runs, Moved, stays, asks, closes, goes}
 
 -- the notices of a packet are those of the event, in order
 
@@ -100,21 +100,21 @@ module _ (H : ℕ → Display) where
           sym (same z) ∙ (sym (now-held t l) ∙ ap (λ k. heldAt t l k) (sym y))
       go false x = ap (λ z. heldAt z l n) e
 
-  moved-number : (s t : Service) (held heldₜ before beforeₜ : InternalState) → Moved s t held heldₜ before beforeₜ → s .number ≤ t .number
+  moved-number : (s t : Service) (held heldₜ : Last) (before beforeₜ : InternalState) → Moved s t held heldₜ before beforeₜ → s .number ≤ t .number
   moved-number s t held heldₜ before beforeₜ (stays e f g) = let x : t .number ≡ s .number = ap (λ (z : Service). z .number) e in omega (arith, x)
   moved-number s t held heldₜ before beforeₜ (asks o e f g) = omega (arith, e)
   moved-number s t held heldₜ before beforeₜ (closes e f) = omega (arith, e)
 
-  moved-held : (s t : Service) (held heldₜ before beforeₜ : InternalState) → Moved s t held heldₜ before beforeₜ → t .number ≡ s .number → displayOf heldₜ ≡ displayOf held
-  moved-held s t held heldₜ before beforeₜ (stays e f g) z = ap displayOf f
-  moved-held s t held heldₜ before beforeₜ (asks o e f g) z = ap displayOf f
+  moved-held : (s t : Service) (held heldₜ : Last) (before beforeₜ : InternalState) → Moved s t held heldₜ before beforeₜ → t .number ≡ s .number → displayOf (heldₜ .state) ≡ displayOf (held .state)
+  moved-held s t held heldₜ before beforeₜ (stays e f g) z = ap (λ (x : Last). displayOf (x .state)) f
+  moved-held s t held heldₜ before beforeₜ (asks o e f g) z = ap (λ (x : Last). displayOf (x .state)) f
   moved-held s t held heldₜ before beforeₜ (closes e f) z = absurd (omega (arith, e, z))
 
   -- what was held at the number before
   abbrev Before : Service → InternalState → Type 0
   Before s before = (n : ℕ) → s .number ≡ suc n → H n ≡ displayOf before
 
-  before-on : (s t : Service) (held heldₜ before beforeₜ : InternalState) → Moved s t held heldₜ before beforeₜ → H (s .number) ≡ displayOf held → Before s before → Before t beforeₜ
+  before-on : (s t : Service) (held heldₜ : Last) (before beforeₜ : InternalState) → Moved s t held heldₜ before beforeₜ → H (s .number) ≡ displayOf (held .state) → Before s before → Before t beforeₜ
   before-on s t held heldₜ before beforeₜ (stays e f g) h b n x = b n (sym (ap (λ (z : Service). z .number) e) ∙ x) ∙ ap displayOf (sym g)
   before-on s t held heldₜ before beforeₜ (asks o e f g) h b n x = b n (sym e ∙ x) ∙ ap displayOf (sym g)
   before-on s t held heldₜ before beforeₜ (closes e f) h b n x =
@@ -140,11 +140,11 @@ module _ (H : ℕ → Display) where
   done-ok (Result.Err Error.Charger) e = absurd (omega (arith, e))
   done-ok (Result.Err Error.Failed) e = absurd (omega (arith, e))
 
-  picture-tells : (g : Registration) (number k : ℕ) (a : Result) (m : Memory) (held before : InternalState) → Closed k a m held before → H number ≡ displayOf held →
+  picture-tells : (g : Registration) (number k : ℕ) (a : Result) (m : Memory) (held : Last) (before : InternalState) → Closed k a m held before → H number ≡ displayOf (held .state) →
       Tells (Packet.Picture (pictureOf (service g number k (Phase.Closed a) m)))
-  picture-tells g number k a m held before c h = ap displayOf (c .same) ∙ sym h
+  picture-tells g number k a m held before c h = ap (λ (x : Last). displayOf (x .state)) (c .same) ∙ sym h
 
-  packet-tells : (g : Registration) (number k : ℕ) (a : Result) (m : Memory) (held before : InternalState) → Closed k a m held before → H number ≡ displayOf held →
+  packet-tells : (g : Registration) (number k : ℕ) (a : Result) (m : Memory) (held : Last) (before : InternalState) → Closed k a m held before → H number ≡ displayOf (held .state) →
       Before (service g number k (Phase.Closed a) m) before → Tells (Packet.Event (packetOf (service g number k (Phase.Closed a) m)))
   packet-tells g number k a m held before c h b n e z =
       ap (λ l. appliedAll l (H n)) (listed-same (m .notices))
@@ -183,7 +183,7 @@ module _ (H : ℕ → Display) where
   not-open : {A : Type 0} → true ≡ false → A
   not-open e = absurd (eqb-false 0 0 e refl)
 
-  picture-at : (g : Registration) (number k : ℕ) (p : Phase) (m : Memory) (held before : InternalState) → StateAt g number k p m held before → isOpen p ≡ false → H number ≡ displayOf held →
+  picture-at : (g : Registration) (number k : ℕ) (p : Phase) (m : Memory) (held : Last) (before : InternalState) → StateAt g number k p m held before → isOpen p ≡ false → H number ≡ displayOf (held .state) →
       Tells (Packet.Picture (pictureOf (service g number k p m)))
   picture-at g number k (Phase.Closed a) m held before c o h = picture-tells g number k a m held before c h
   picture-at g number k (Phase.Leaving i p f) m held before c o h = not-open o
@@ -191,7 +191,7 @@ module _ (H : ℕ → Display) where
   picture-at g number k (Phase.Connecting s new) m held before c o h = not-open o
   picture-at g number k (Phase.Providing p d) m held before c o h = not-open o
 
-  packet-at : (g : Registration) (number k : ℕ) (p : Phase) (m : Memory) (held before : InternalState) → StateAt g number k p m held before → isOpen p ≡ false → H number ≡ displayOf held →
+  packet-at : (g : Registration) (number k : ℕ) (p : Phase) (m : Memory) (held : Last) (before : InternalState) → StateAt g number k p m held before → isOpen p ≡ false → H number ≡ displayOf (held .state) →
       Before (service g number k p m) before → Tells (Packet.Event (packetOf (service g number k p m)))
   packet-at g number k (Phase.Closed a) m held before c o h b = packet-tells g number k a m held before c h b
   packet-at g number k (Phase.Leaving i p f) m held before c o h b = not-open o
@@ -199,7 +199,7 @@ module _ (H : ℕ → Display) where
   packet-at g number k (Phase.Connecting s new) m held before c o h b = not-open o
   packet-at g number k (Phase.Providing p d) m held before c o h b = not-open o
 
-  writes-tells : (s : Service) (held before : InternalState) (c : Call) (p : Packet) → Runs s held before → H (s .number) ≡ displayOf held → Before s before → Writes s c p → Tells p
+  writes-tells : (s : Service) (held : Last) (before : InternalState) (c : Call) (p : Packet) → Runs s held before → H (s .number) ≡ displayOf (held .state) → Before s before → Writes s c p → Tells p
   writes-tells s held before (openEvent kind device detail r) p x h b w = absurd w
   writes-tells s held before (giveAnswer a r) p x h b w = absurd w
   writes-tells s held before writePacket p x h b w =
@@ -209,7 +209,7 @@ module _ (H : ℕ → Display) where
       let q = shown s (w .0) (w .1) in
       subst Tells (sym (w .2 ∙ ap Packet.Picture (q .1))) (picture-at (s .registration) (s .number) (s .orders) (s .phase) (s .memory) held before (x .state) (q .0) h)
 
-  pub wrote-tells : (l : List Call) (s : Service) (held before : InternalState) (p : Packet) → CallsFit l → Runs s held before → Agrees (policyOf s held) l → Before s before → Wrote s l p → Tells p
+  pub wrote-tells : (l : List Call) (s : Service) (held : Last) (before : InternalState) (p : Packet) → CallsFit l → Runs s held before → Agrees (policyOf s held) l → Before s before → Wrote s l p → Tells p
   wrote-tells (c ∷ l) s held before p cf x a b w =
       ⊎-elim (λ z. writes-tells s held before c p x (now (policyOf s held) (c ∷ l) a) b z)
       (λ z.
@@ -252,7 +252,7 @@ module _ (K : ℕ → EventPacket) where
   still s c l n e false eb true ed =
       sym (ap (λ z. packetFor z l n) e ∙ (ap (λ k. packetFor s l k) (eqb-true n (s .number) ed) ∙ now-packet s l eb))
 
-  keeps-on : (s : Service) (held heldₜ before beforeₜ : InternalState) (c : Call) (l : List Call) → Moved s (after s c) held heldₜ before beforeₜ → Keeps s (c ∷ l) → Keeps (after s c) l
+  keeps-on : (s : Service) (held heldₜ : Last) (before beforeₜ : InternalState) (c : Call) (l : List Call) → Moved s (after s c) held heldₜ before beforeₜ → Keeps s (c ∷ l) → Keeps (after s c) l
   keeps-on s held heldₜ before beforeₜ c l (stays e f g) k n a =
       k n (subst (λ z. Ahead z n) e a) ∙ still s c l n e (isOpen (s .phase)) refl (eqb n (s .number)) refl
   keeps-on s held heldₜ before beforeₜ c l (asks o e f g) k n a =
@@ -273,7 +273,7 @@ module _ (K : ℕ → EventPacket) where
       let a : Ahead s (s .number) = (omega arith, λ x. absurd (eqb-false 0 0 (sym x ∙ q .0) refl)) in
       subst IsOne (sym (w .2 ∙ ap Packet.Event (q .1))) (sym (k (s .number) a ∙ now-packet s (writePacket ∷ l) (q .0)))
 
-  pub wrote-one : (l : List Call) (s : Service) (held before : InternalState) (p : Packet) → CallsFit l → Runs s held before → Keeps s l → Wrote s l p → IsOne p
+  pub wrote-one : (l : List Call) (s : Service) (held : Last) (before : InternalState) (p : Packet) → CallsFit l → Runs s held before → Keeps s l → Wrote s l p → IsOne p
   wrote-one (c ∷ l) s held before p cf x k w =
       ⊎-elim (λ z. writes-one s c l p k z)
       (λ z.
@@ -326,7 +326,7 @@ answer-le (Result.Err Error.Bus) = refl
 answer-le (Result.Err Error.Charger) = refl
 answer-le (Result.Err Error.Failed) = refl
 
-packet-fits : (g : Registration) (number k : ℕ) (a : Result) (m : Memory) (held before : InternalState) → Closed k a m held before → number ≤ 4294967295 → eqb number 0 ≡ false →
+packet-fits : (g : Registration) (number k : ℕ) (a : Result) (m : Memory) (held : Last) (before : InternalState) → Closed k a m held before → number ≤ 4294967295 → eqb number 0 ≡ false →
     eventFits (packetOf (service g number k (Phase.Closed a) m)) ≡ true
 unfolding eventFits
 packet-fits g number k a m held before c nb nz =
@@ -337,7 +337,7 @@ packet-fits g number k a m held before c nb nz =
     (both (leb number 4294967295) _ (le-leb number 4294967295 nb)
     (both (leb (answerByte a) 10) _ (answer-le a) (both (leb k 35) _ (le-leb k 35 (c .few)) n)))
 
-picture-fits : (g : Registration) (number k : ℕ) (a : Result) (m : Memory) (held before : InternalState) → Closed k a m held before → number ≤ 4294967295 →
+picture-fits : (g : Registration) (number k : ℕ) (a : Result) (m : Memory) (held : Last) (before : InternalState) → Closed k a m held before → number ≤ 4294967295 →
     pictureFits (pictureOf (service g number k (Phase.Closed a) m)) ≡ true
 unfolding pictureFits
 picture-fits g number k a m held before c nb =
@@ -348,7 +348,7 @@ picture-fits g number k a m held before c nb =
     (both (ltb (m .state .«connected_providers» .mask) 65536) _ (lt-ltb (m .state .«connected_providers» .mask) 65536 (t .ports))
     (le-leb (len (m .state .«connected_providers»)) 4 (t .few)))))
 
-packet-fits-at : (g : Registration) (number k : ℕ) (p : Phase) (m : Memory) (held before : InternalState) → StateAt g number k p m held before → isOpen p ≡ false → number ≤ 4294967295 → eqb number 0 ≡ false →
+packet-fits-at : (g : Registration) (number k : ℕ) (p : Phase) (m : Memory) (held : Last) (before : InternalState) → StateAt g number k p m held before → isOpen p ≡ false → number ≤ 4294967295 → eqb number 0 ≡ false →
     eventFits (packetOf (service g number k p m)) ≡ true
 packet-fits-at g number k (Phase.Closed a) m held before c o nb nz = packet-fits g number k a m held before c nb nz
 packet-fits-at g number k (Phase.Leaving i p f) m held before c o nb nz = absurd (eqb-false 0 0 o refl)
@@ -356,7 +356,7 @@ packet-fits-at g number k (Phase.Switching l old f new) m held before c o nb nz 
 packet-fits-at g number k (Phase.Connecting s new) m held before c o nb nz = absurd (eqb-false 0 0 o refl)
 packet-fits-at g number k (Phase.Providing p d) m held before c o nb nz = absurd (eqb-false 0 0 o refl)
 
-picture-fits-at : (g : Registration) (number k : ℕ) (p : Phase) (m : Memory) (held before : InternalState) → StateAt g number k p m held before → isOpen p ≡ false → number ≤ 4294967295 →
+picture-fits-at : (g : Registration) (number k : ℕ) (p : Phase) (m : Memory) (held : Last) (before : InternalState) → StateAt g number k p m held before → isOpen p ≡ false → number ≤ 4294967295 →
     pictureFits (pictureOf (service g number k p m)) ≡ true
 picture-fits-at g number k (Phase.Closed a) m held before c o nb = picture-fits g number k a m held before c nb
 picture-fits-at g number k (Phase.Leaving i p f) m held before c o nb = absurd (eqb-false 0 0 o refl)
@@ -364,19 +364,19 @@ picture-fits-at g number k (Phase.Switching l old f new) m held before c o nb = 
 picture-fits-at g number k (Phase.Connecting s new) m held before c o nb = absurd (eqb-false 0 0 o refl)
 picture-fits-at g number k (Phase.Providing p d) m held before c o nb = absurd (eqb-false 0 0 o refl)
 
-writes-fits : (s : Service) (held before : InternalState) (c : Call) (p : Packet) → Runs s held before → Writes s c p → wellFormed p ≡ true
+writes-fits : (s : Service) (held : Last) (before : InternalState) (c : Call) (p : Packet) → Runs s held before → Writes s c p → wellFormed p ≡ true
 writes-fits s held before (openEvent kind device detail r) p x w = absurd w
 writes-fits s held before (giveAnswer a r) p x w = absurd w
 writes-fits s held before writePacket p x w =
-    let q = sent (λ n. displayOf held) s (w .0) (w .1) in
+    let q = sent (λ n. displayOf (held .state)) s (w .0) (w .1) in
     subst (λ z. wellFormed z ≡ true) (sym (w .2 ∙ ap Packet.Event (q .1)))
     (packet-fits-at (s .registration) (s .number) (s .orders) (s .phase) (s .memory) held before (x .state) (q .0) (x .number) (q .2))
 writes-fits s held before writePicture p x w =
-    let q = shown (λ n. displayOf held) s (w .0) (w .1) in
+    let q = shown (λ n. displayOf (held .state)) s (w .0) (w .1) in
     subst (λ z. wellFormed z ≡ true) (sym (w .2 ∙ ap Packet.Picture (q .1)))
     (picture-fits-at (s .registration) (s .number) (s .orders) (s .phase) (s .memory) held before (x .state) (q .0) (x .number))
 
-pub wrote-fits : (l : List Call) (s : Service) (held before : InternalState) (p : Packet) → CallsFit l → Runs s held before → Wrote s l p → wellFormed p ≡ true
+pub wrote-fits : (l : List Call) (s : Service) (held : Last) (before : InternalState) (p : Packet) → CallsFit l → Runs s held before → Wrote s l p → wellFormed p ≡ true
 wrote-fits (c ∷ l) s held before p cf x w =
     ⊎-elim (λ z. writes-fits s held before c p x z)
     (λ z. let t = goes s held before c (cf .0) x in wrote-fits l (after s c) (t .heldₜ) (t .beforeₜ) p (cf .1) (t .runs) z)
@@ -384,21 +384,21 @@ wrote-fits (c ∷ l) s held before p cf x w =
 
 -- what is written is of an event that has closed, or of the start
 
-grows : (l : List Call) (s : Service) (held before : InternalState) → CallsFit l → Runs s held before → s .number ≤ policies (policyOf s held) l .number
+grows : (l : List Call) (s : Service) (held : Last) (before : InternalState) → CallsFit l → Runs s held before → s .number ≤ policies (policyOf s held) l .number
 grows [] s held before cf x = omega arith
 grows (c ∷ l) s held before cf x =
     let t = goes s held before c (cf .0) x in
-    let n : s .number ≤ after s c .number = moved-number (λ k. displayOf held) s (after s c) held (t .heldₜ) before (t .beforeₜ) (t .moves) in
+    let n : s .number ≤ after s c .number = moved-number (λ k. displayOf (held .state)) s (after s c) held (t .heldₜ) before (t .beforeₜ) (t .moves) in
     let m : after s c .number ≤ policies (policyOf (after s c) (t .heldₜ)) l .number = grows l (after s c) (t .heldₜ) (t .beforeₜ) (cf .1) (t .runs) in
     subst (λ z. s .number ≤ policies z l .number) (sym (t .same)) (omega (arith, n, m))
 
-writes-number : (s : Service) (held : InternalState) (c : Call) (p : Packet) → Writes s c p → numberIn p ≡ s .number
+writes-number : (s : Service) (held : Last) (c : Call) (p : Packet) → Writes s c p → numberIn p ≡ s .number
 writes-number s held (openEvent kind device detail r) p w = absurd w
 writes-number s held (giveAnswer a r) p w = absurd w
-writes-number s held writePacket p w = ap numberIn (w .2 ∙ ap Packet.Event (sent (λ n. displayOf held) s (w .0) (w .1) .1))
-writes-number s held writePicture p w = ap numberIn (w .2 ∙ ap Packet.Picture (shown (λ n. displayOf held) s (w .0) (w .1) .1))
+writes-number s held writePacket p w = ap numberIn (w .2 ∙ ap Packet.Event (sent (λ n. displayOf (held .state)) s (w .0) (w .1) .1))
+writes-number s held writePicture p w = ap numberIn (w .2 ∙ ap Packet.Picture (shown (λ n. displayOf (held .state)) s (w .0) (w .1) .1))
 
-pub wrote-closed : (l : List Call) (s : Service) (held before : InternalState) (p : Packet) → CallsFit l → Runs s held before → Wrote s l p →
+pub wrote-closed : (l : List Call) (s : Service) (held : Last) (before : InternalState) (p : Packet) → CallsFit l → Runs s held before → Wrote s l p →
     numberIn p ≤ policies (policyOf s held) l .number
 wrote-closed (c ∷ l) s held before p cf x w =
     ⊎-elim

@@ -1,3 +1,4 @@
 pub mod Policy
 pub mod Run
 pub mod Sized
+pub mod Demands

@@ -4,6 +4,7 @@ use mathlib.Core.Bool.{Bool, true, false, cond}
 use mathlib.Core.List.{List, [], _∷_}
 use lib.Dec.{eqb}
 use Rattle.power_policy_interface.specs.declared.psu.Result.{Result}
+use Rattle.power_policy_interface.specs.declared.service.event.Event.{Event}
 use Rattle.display.specs.declared.Display.{Display}
 use Rattle.event.specs.Memory.{freshState}
 use Rattle.event.specs.declared.memory.InternalState.{InternalState}
@@ -12,8 +13,8 @@ use Rattle.event.specs.declared.memory.Registration.{Registration}
 use Rattle.event.specs.declared.phase.Order.{Order}
 use Rattle.service.specs.Refusals.{firstRefused, openConditions}
 use Rattle.service.specs.Service.{eventOf, resultOf}
-use Rattle.interaction.specs.Action.{Interaction, done, ask}
 use Rattle.send.specs.Send.{displayOf}
+use Rattle.interaction.specs.Action.{Interaction, done, ask}
 use Rattle.interaction.specs.Interaction.{event}
 use Rattle.interaction.specs.Served.{noAnswer}
 
@@ -23,10 +24,10 @@ pub data Call : Type 0 where
   giveAnswer : ℕ → Records → Call
   writePacket writePicture : Call
 
--- no event is open, or one is, at an order
+-- no event is open, or one is: so many orders given, the open one the last of them, and what its answer leads to
 pub data Stand : Type 0 where
   between : Stand
-  at : Order → (Result → Records → Interaction) → Stand
+  at : ℕ → Order → (Result → Records → Interaction) → Stand
 
 pub record Policy : Type 0 where
   pub registration : Registration
@@ -34,30 +35,44 @@ pub record Policy : Type 0 where
   pub number : ℕ
   -- what was held when it closed
   pub state : InternalState
+  -- its answer, the number of its orders, and its notices in their order
+  pub answer : Result
+  pub orders : ℕ
+  pub notices : List Event
   pub stand : Stand
 
 -- 0: the start
 abbrev pub started : Registration → Policy
-started g = record { registration = g; number = 0; state = freshState; stand = between }
+started g =
+    record { registration = g; number = 0; state = freshState; answer = Result.Ok; orders = 0; notices = []; stand = between }
 
--- an event that closes has the next number
-abbrev pub proceeds : Policy → Interaction → Policy
-proceeds p (done a h) = record { registration = p .registration; number = suc (p .number); state = h .state; stand = between }
-proceeds p (ask o k) = record { registration = p .registration; number = p .number; state = p .state; stand = at o k }
+-- after n orders the event closes, and has the next number, or asks once more. So an event's orders are those of its list, interaction's
+-- `ordersBy` (proofs/Orders.antt)
+abbrev pub proceeds : Policy → ℕ → Interaction → Policy
+proceeds p n (done a h) =
+    record { registration = p .registration; number = suc (p .number); state = h .state; answer = a; orders = n; notices = h .notices; stand = between }
+proceeds p n (ask o k) =
+    record { registration = p .registration; number = p .number; state = p .state; answer = p .answer; orders = p .orders; notices = p .notices; stand = at (suc n) o k }
 
 abbrev pub isAt : Stand → Bool
 isAt between = false
-isAt (at o k) = true
+isAt (at n o k) = true
 
+-- the number that turns an opening back, else 0
+abbrev pub openRefused : Policy → ℕ → ℕ → ℕ → ℕ
+openRefused p kind device detail =
+    firstRefused (openConditions (p .registration .ports) (p .registration .chargers) (isAt (p .stand)) (p .number) kind device detail)
+
+-- kind 5, a charger's event, changes nothing
 abbrev pub opens : Policy → ℕ → ℕ → ℕ → Records → Policy
 opens p kind device detail r =
-    let g = p .registration in
-    let n : ℕ = firstRefused (openConditions (g .ports) (g .chargers) (isAt (p .stand)) (p .number) kind device detail) in
-    cond (eqb n 0) (cond (eqb kind 5) p (proceeds p (event g device (eventOf kind detail) (p .state) r))) p
+    cond (eqb (openRefused p kind device detail) 0)
+    (cond (eqb kind 5) p (proceeds p 0 (event (p .registration) device (eventOf kind detail) (p .state) r)))
+    p
 
 abbrev pub answers : Stand → Policy → ℕ → Records → Policy
 answers between p a r = p
-answers (at o k) p a r = cond (noAnswer o a) p (proceeds p (k (resultOf a) r))
+answers (at n o k) p a r = cond (noAnswer o a) p (proceeds p n (k (resultOf a) r))
 
 abbrev pub policyAfter : Policy → Call → Policy
 policyAfter p (openEvent kind device detail r) = opens p kind device detail r
@@ -65,7 +80,7 @@ policyAfter p (giveAnswer a r) = answers (p .stand) p a r
 policyAfter p writePacket = p
 policyAfter p writePicture = p
 
--- what is held when event n closes (0: the start)
+-- what was held when event n closed (0: the start); for an n that has not closed in these calls, what is held last
 abbrev pub heldAt : Policy → List Call → ℕ → Display
 heldAt p [] n = displayOf (p .state)
 heldAt p (c ∷ l) n = cond (eqb n (p .number)) (displayOf (p .state)) (heldAt (policyAfter p c) l n)

@@ -1,19 +1,20 @@
--- Fields within what document 01 lays out: of records and a configuration as their types have them, and so of what is held and told.
+-- What the types of records, of a configuration and of a start's figures can hold: the demands are of calls with such records, and a start
+-- accepts no other configuration.
 use Prim.Native.Nat.{ℕ, _<_, _≤_}
 use mathlib.Core.Bool.{true}
+use mathlib.Core.List.{List, [], _∷_}
 use mathlib.Core.Path.{_≡_}
-use lib.Dec.{leb}
 use Rattle.power_policy_interface.specs.declared.capability.OptionConsumerPowerCapability.{OptionConsumerPowerCapability}
 use Rattle.power_policy_interface.specs.declared.capability.OptionProviderPowerCapability.{OptionProviderPowerCapability}
 use Rattle.power_policy_interface.specs.declared.psu.State.{State}
-use Rattle.display.specs.Providers.{len}
-use Rattle.display.specs.declared.providers.Providers.{Providers}
 use Rattle.power_policy_service.specs.Rows.{psuAt}
 use Rattle.power_policy_service.specs.declared.config.Config.{Config}
+use Rattle.power_policy_service.specs.declared.config.OptionMilliwatts.{OptionMilliwatts}
 use Rattle.event.specs.declared.memory.Records.{Records}
+use Rattle.service.specs.Service.{freshService}
+use Rattle.service.specs.declared.Service.{Service}
 use Rattle.wire.specs.WellFormed.{capabilityFits}
 use Rattle.run.specs.Policy.{Call, openEvent, giveAnswer, writePacket, writePicture}
-use mathlib.Core.List.{List, [], _∷_}
 
 -- 16 bits for mV and mA
 abbrev pub OfferFits : OptionConsumerPowerCapability → Type 0
@@ -43,3 +44,18 @@ CallFits writePicture = Unit {0}
 abbrev pub CallsFit : List Call → Type 0
 CallsFit [] = Unit {0}
 CallsFit (c ∷ l) = CallFits c × CallsFit l
+
+-- 32 bits for mW
+abbrev pub MinimumFits : OptionMilliwatts → Type 0
+MinimumFits OptionMilliwatts.None = Unit {0}
+MinimumFits (OptionMilliwatts.Some n) = n ≤ 4294967295
+
+-- what a start has accepted: the service is fresh, and all figures are within their types
+pub record StartFits (ports chargers : ℕ) (s : Service) : Type 0 where
+  pub config : Config
+  pub fresh : s ≡ freshService config ports chargers
+  pub few-ports : ports ≤ 16
+  pub few-chargers : chargers ≤ 8
+  pub figures : ConfigFits config
+  pub threshold : config .«limited_power_threshold_mw» ≤ 4294967295
+  pub minimum : MinimumFits (config .«min_consumer_threshold_mw»)

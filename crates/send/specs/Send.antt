@@ -67,11 +67,17 @@ pictureOf s = record { number = s .number; display = displayOf (s .memory .state
 
 -- 25: while an event is open; 27: before event 1
 
+abbrev pub packetConditions : Bool → ℕ → List (Bool × ℕ)
+packetConditions waits number = (waits, 25) ∷ (eqb number 0, 27) ∷ []
+
 abbrev pub packetRefusals : Service → List (Bool × ℕ)
-packetRefusals s = (isOpen (s .phase), 25) ∷ (eqb (s .number) 0, 27) ∷ []
+packetRefusals s = packetConditions (isOpen (s .phase)) (s .number)
+
+abbrev pub pictureConditions : Bool → List (Bool × ℕ)
+pictureConditions waits = (waits, 25) ∷ []
 
 abbrev pub pictureRefusals : Service → List (Bool × ℕ)
-pictureRefusals s = (isOpen (s .phase), 25) ∷ []
+pictureRefusals s = pictureConditions (isOpen (s .phase))
 
 abbrev pub sendPacket : Service → SentPacket
 sendPacket s =

@@ -1,8 +1,10 @@
--- What turns a call back: an ordered list of conditions with their numbers for each call. The first that holds gives the number, the
--- lowest that applies.
-use Prim.Native.Nat.{ℕ}
+-- What turns a call back: a list of conditions with their numbers for each call. The first that holds gives the number. Each list ascends, so
+-- that this is the lowest that applies.
+use Prim.Native.Nat.{ℕ, _≤_}
 use mathlib.Core.Bool.{Bool, true, false, cond, not, _&&_, _||_}
 use mathlib.Core.List.{List, [], _∷_}
+use mathlib.Core.Logic.{_⊎_}
+use mathlib.Core.Path.{_≡_}
 use lib.Dec.{ltb, leb, eqb}
 use Rattle.power_policy_service.specs.declared.config.OptionConfig.{OptionConfig}
 use Rattle.event.specs.Phase.{orderOf}
@@ -15,6 +17,27 @@ use Rattle.service.specs.declared.Service.{Service}
 abbrev pub firstRefused : List (Bool × ℕ) → ℕ
 firstRefused [] = 0
 firstRefused (r ∷ rest) = cond (r .0) (r .1) (firstRefused rest)
+
+-- each number is above n and above the one before it
+abbrev pub ascendsFrom : ℕ → List (Bool × ℕ) → Bool
+ascendsFrom n [] = true
+ascendsFrom n (r ∷ rest) = ltb n (r .1) && ascendsFrom (r .1) rest
+
+-- from above 0, which stands for no condition; so it is for each list of this crate and of `send` (proofs/Lowest.antt, send's proofs/Ascends.antt)
+abbrev pub Ascending : List (Bool × ℕ) → Type 0
+Ascending l = ascendsFrom 0 l ≡ true
+
+-- a condition with this number holds
+abbrev pub Applies : ℕ → List (Bool × ℕ) → Type 0
+Applies n [] = ⊥
+Applies n (r ∷ rest) = ((r .0 ≡ true) × (r .1 ≡ n)) ⊎ Applies n rest
+
+-- n is the lowest that applies, and 0 exactly if none does
+pub record Lowest (l : List (Bool × ℕ)) (n : ℕ) : Type 0 where
+  pub applies : (n ≡ 0 → ⊥) → Applies n l
+  pub least : (m : ℕ) → Applies m l → n ≤ m
+  pub none : n ≡ 0 → (m : ℕ) → Applies m l → ⊥
+  pub no-other : ((m : ℕ) → Applies m l → ⊥) → n ≡ 0
 
 -- start
 

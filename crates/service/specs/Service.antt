@@ -50,7 +50,7 @@ freshTurn = closed Result.Ok (remember freshState noNotices)
 abbrev pub freshService : Config → ℕ → ℕ → Service
 freshService c ports chargers = serviceWith (record { config = c; ports = ports; chargers = chargers }) 0 0 freshTurn
 
--- no configuration has been refused
+-- `None` is refused before, by 20
 abbrev pub startWith : OptionConfig → ℕ → ℕ → Started
 startWith OptionConfig.None ports chargers = Started.Refused 20
 startWith (OptionConfig.Some c) ports chargers = Started.Service (freshService c ports chargers)
@@ -62,7 +62,7 @@ startOf config ports chargers =
 
 -- the end of every accepted call
 
--- one more, at most the limit: no event gives 255 orders, and after the last number every event is refused
+-- one more, at most the limit: no event gives 255 orders, and after the last number every PSU event is refused
 abbrev pub increment : ℕ → ℕ → ℕ
 increment limit n = cond (ltb n limit) (suc n) limit
 
@@ -130,7 +130,7 @@ openOf s kind device detail r =
 
 -- answer
 
--- the open order; none has been refused
+-- the open order; `None` is refused before, by 26
 abbrev pub orderIn : OptionOrder → Order
 orderIn OptionOrder.None = Order.Wait
 orderIn (OptionOrder.Some o) = o

@@ -165,7 +165,7 @@ fn order_in(order: OptionOrder) -> Order
 }
 
 // How a phase with no order closed.
-fn answer_in(phase: Phase) -> psu::Result
+pub fn answer_in(phase: Phase) -> psu::Result
     ensures { λ r. ⌜ r ≡ answerIn phase ⌝ }
 {
     match phase {

@@ -1,4 +1,4 @@
--- The update of the consumer, from one order to the next. That it follows the Rust's update is shown in `interaction`.
+-- The update of the consumer, from one order to the next. That it follows the update as transcribed from the Rust is shown in `interaction`.
 use Prim.Native.Nat.{ℕ, zero, suc, _-_, min}
 use mathlib.Core.Bool.{Bool, true, false, cond, _&&_}
 use lib.Dec.{ltb, eqb}

@@ -1,5 +1,5 @@
--- What is written: the bytes of each field in its place. It is total: a field out of its range is written as it stands, in at most
--- 64 bytes all the same.
+-- What is written: the bytes of each field in its place, at most 64 for fields within their ranges (proofs/Lengths.antt). It is total: a
+-- field out of its range is written as it stands.
 use Prim.Native.Nat.{ℕ, zero, suc, _/_, _%_}
 use mathlib.Core.Bool.{cond}
 use mathlib.Core.List.{List, [], _∷_, _++_}
@@ -57,8 +57,8 @@ portsBytes mask = portsFrom 16 0 mask
 unfoldable pub pictureBytes : Picture → List ℕ
 pictureBytes p =
     2 ∷ (leb128 (p .number) ++ (consumerBytes (p .display .consumer)
-    ++ (bit (p .display .unconstrained .unconstrained)
-    ∷ (p .display .unconstrained .available ∷ (len (p .display .providers) ∷ portsBytes (p .display .providers .mask))))))
+    ++ (unconstrainedBytes (p .display .unconstrained)
+    ++ (len (p .display .providers) ∷ portsBytes (p .display .providers .mask)))))
 
 abbrev pub packetBytes : Packet → List ℕ
 packetBytes (Packet.Event p) = eventBytes p

@@ -70,7 +70,7 @@ abbrev pub noticeUsed : ReadNotice → ℕ
 noticeUsed (ReadNotice.Refused n) = 0
 noticeUsed (ReadNotice.Notice e used) = used
 
--- with nothing left over
+-- nothing is left over: `end` has refused that before
 
 abbrev pub noticesRead : Parsed Notices → ReadNotices
 noticesRead (refused n) = ReadNotices.Refused n

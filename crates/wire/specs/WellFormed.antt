@@ -1,4 +1,4 @@
--- The packets that a service writes: each field within what document 01 lays out, and notices in their one form. A test, so that it can
+-- The packets that the reader accepts: each field within what document 01 lays out, and notices in their one form. A test, so that it can
 -- be decided.
 use Prim.Native.Nat.{ℕ}
 use mathlib.Core.Bool.{Bool, true, _&&_}

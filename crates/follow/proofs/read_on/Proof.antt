@@ -1,6 +1,11 @@
 -- The bytes that are left are within the buffer.
 use mathlib.Core.Path.{sym}
-use lib.Seq.{length-take-le}
+use Prim.Native.Nat.{_≤_}
+use native.Mathlib.Omega.{arith}
+use lib.ListN.{length, take}
+use lib.Seq.{length-take-le, take-at}
+use denote.Ref.{now}
+use Rattle.follow.proofs.Takes.{read-after}
 use borrow.Author.Needs.{needs}
 use Rattle.follow.proofs.read_on.Statement.{statement}
 use Rattle.follow.proofs.read_on.Tie as tie
@@ -30,7 +35,7 @@ same-length : tie.Need-same-length
 same-length c = search needs
 
 returns : tie.Need-returns
-returns c = search needs
+returns c = rw (c .stop .ensures .2, c .stop .ensures .1) (omega arith, search needs, tt)
 
 sub-count : tie.Need-sub-count
 sub-count c = search needs
@@ -60,7 +65,7 @@ same-length-2 : tie.Need-same-length-2
 same-length-2 c = search needs
 
 returns-2 : tie.Need-returns-2
-returns-2 c = search needs
+returns-2 c = rw (c .stop2 .ensures .2, c .stop2 .ensures .1) (omega arith, search needs, tt)
 
 add-take-front : tie.Need-add-take-front
 add-take-front c = search needs
@@ -72,7 +77,11 @@ same-length-3 : tie.Need-same-length-3
 same-length-3 c = search needs
 
 returns-3 : tie.Need-returns-3
-returns-3 c = search needs
+returns-3 c =
+    let x = c .before .before .before .before .before .before .before .before .before .before .before .before .before .before .args in
+    let t = c .before .before .take-front in
+    let h : x .have ≤ length (now (x .input)) = omega (arith, c .before .before .before .before .before .before .before .before .before .before .before .before .before .before .pre) in
+    (t .ensures .0, search needs, read-after (x .desk) (t .result .desk) (now (x .input)) _ (x .have) _ _ (t .result .go) (t .ensures .2) (take-at (take (x .have) (now (x .input))) _ (x .have) (length-take-le (x .have) (now (x .input)) h)))
 
 pub read-on-spec : {M : Type 1} → statement M
 read-on-spec =

@@ -1,25 +1,24 @@
--- A packet takes at least one byte, and at most those that are left.
-use mathlib.Core.Path.{_≡_, sym, _∙_}
+-- Each turn is a step of `takeAll`: a packet takes at least one byte, and at most those that are left.
+use mathlib.Core.Path.{_≡_, refl, _∙_}
 use Prim.Native.Nat.{_≤_, _<_, _-_}
 use native.Mathlib.Omega.{arith}
 use denote.Ref.{now}
-use lib.ListN.{length, take, drop, length-drop}
-use lib.Seq.{take-all}
-use Rattle.report.specs.Desk.{steppedNext}
-use Rattle.report.specs.declared.desk.Next.{Next}
-use Rattle.report.proofs.Lengths.{used-bounds}
+use lib.ListN.{length, drop, length-drop}
+use Rattle.report.specs.Reads.{takeAll}
+use Rattle.follow.specs.Took.{left}
+use Rattle.follow.proofs.Takes.{used-within, step-used, step-more, step-stop, none-more}
 use borrow.Author.Needs.{needs}
 use Rattle.follow.proofs.take_all.Statement.{statement}
 use Rattle.follow.proofs.take_all.Tie as tie
 
 abbrev Inv-loop : tie.InvT-loop
-Inv-loop desk₀ input used₀ desk used = used ≤ length input
+Inv-loop desk₀ input used₀ desk used = (used ≤ length input) × (left (takeAll desk₀ input) ≡ left (takeAll desk (drop used input)))
 
 abbrev μ-loop : tie.MeasureT-loop
 μ-loop desk₀ input used₀ desk used = length input - used
 
 loop-holds : tie.Need-loop-holds Inv-loop μ-loop
-loop-holds c = search needs
+loop-holds c = (omega arith, refl)
 
 sub-take-one : tie.Need-sub-take-one Inv-loop μ-loop
 sub-take-one c = search needs
@@ -34,7 +33,7 @@ take-one-requires : tie.Need-take-one-requires Inv-loop μ-loop
 take-one-requires c κs = search needs
 
 returns : tie.Need-returns Inv-loop μ-loop
-returns c = search needs
+returns c = (search needs, tt)
 
 enum-known-next : tie.Need-enum-known-next Inv-loop μ-loop
 enum-known-next c = search needs
@@ -44,51 +43,59 @@ add-used c =
     let s = now (c .before .before .before .before .before .before .before .before .before .before .before .args .input) in
     let u = c .before .before .before .before .before .before .before .before .before .loop .used in
     let h : u < length s = c .before .before .before .before .before .before .before .before .loop-test .taken in
-    let q = drop u s in
-    let m = c .before .next .given .0 .0 in
-    let e : steppedNext (take (length s - u) q) ≡ Next.Used m = sym (c .before .before .before .before .before .before .take-one .ensures) ∙ c .before .next .given .1 in
-    let a : take (length s - u) q ≡ q = take-all (length s - u) q (omega (arith, length-drop u s)) in
-    let b = used-bounds q m (rw a at e) in
-    omega (arith, b .0, b .1, length-drop u s)
+    let b =
+    let x = c .before .before .before .before .before .before .before .before .before .before .before .args in
+    let l = c .before .before .before .before .before .before .before .before .before .loop in
+    let o = c .before .before .before .before .before .before .take-one in
+    let m = c .before .next .given in
+    used-within (x .desk) (l .desk) (o .result .desk) s u (o .result .next) (l .inv .0) (l .inv .1) (o .ensures .0) (o .ensures .1) (m .0 .0) (m .1)
+    in
+    omega (arith, b .1, length-drop u s)
 
 loop-less : tie.Need-loop-less Inv-loop μ-loop
 loop-less c =
-    let s = now (c .before .before .before .before .before .before .before .before .before .before .before .args .input) in
-    let u = c .before .before .before .before .before .before .before .before .before .loop .used in
-    let h : u < length s = c .before .before .before .before .before .before .before .before .loop-test .taken in
-    let q = drop u s in
-    let m = c .before .next .given .0 .0 in
-    let e : steppedNext (take (length s - u) q) ≡ Next.Used m = sym (c .before .before .before .before .before .before .take-one .ensures) ∙ c .before .next .given .1 in
-    let a : take (length s - u) q ≡ q = take-all (length s - u) q (omega (arith, length-drop u s)) in
-    let b = used-bounds q m (rw a at e) in
-    omega (arith, b .0, b .1, length-drop u s)
+    let x = c .before .before .before .before .before .before .before .before .before .before .before .args in
+    let l = c .before .before .before .before .before .before .before .before .before .loop in
+    let o = c .before .before .before .before .before .before .take-one in
+    let m = c .before .next .given in
+    let b = used-within (x .desk) (l .desk) (o .result .desk) (now (x .input)) (l .used) (o .result .next) (l .inv .0) (l .inv .1) (o .ensures .0) (o .ensures .1) (m .0 .0) (m .1) in
+    let r = length-drop (l .used) (now (x .input)) in
+    omega (arith, b .0, b .1)
 
 loop-again : tie.Need-loop-again Inv-loop μ-loop
 loop-again c =
-    let s = now (c .before .before .before .before .before .before .before .before .before .before .before .args .input) in
-    let u = c .before .before .before .before .before .before .before .before .before .loop .used in
-    let h : u < length s = c .before .before .before .before .before .before .before .before .loop-test .taken in
-    let q = drop u s in
-    let m = c .before .next .given .0 .0 in
-    let e : steppedNext (take (length s - u) q) ≡ Next.Used m = sym (c .before .before .before .before .before .before .take-one .ensures) ∙ c .before .next .given .1 in
-    let a : take (length s - u) q ≡ q = take-all (length s - u) q (omega (arith, length-drop u s)) in
-    let b = used-bounds q m (rw a at e) in
-    omega (arith, b .0, b .1, length-drop u s)
+    let x = c .before .before .before .before .before .before .before .before .before .before .before .args in
+    let l = c .before .before .before .before .before .before .before .before .before .loop in
+    let o = c .before .before .before .before .before .before .take-one in
+    let m = c .before .next .given in
+    let b = used-within (x .desk) (l .desk) (o .result .desk) (now (x .input)) (l .used) (o .result .next) (l .inv .0) (l .inv .1) (o .ensures .0) (o .ensures .1) (m .0 .0) (m .1) in
+    let r = length-drop (l .used) (now (x .input)) in
+    (omega (arith, b .1), step-used (x .desk) (l .desk) (o .result .desk) (now (x .input)) (l .used) (o .result .next) (l .inv .0) (l .inv .1) (o .ensures .0) (o .ensures .1) (m .0 .0) (m .1))
 
 enum-told : tie.Need-enum-told Inv-loop μ-loop
 enum-told c = search needs
 
 returns-2 : tie.Need-returns-2 Inv-loop μ-loop
-returns-2 c = search needs
+returns-2 c =
+    let x = c .before .before .before .before .before .before .before .before .before .before .args in
+    let l = c .before .before .before .before .before .before .before .before .loop in
+    let o = c .before .before .before .before .before .take-one in
+    (l .inv .0, step-more (x .desk) (l .desk) (o .result .desk) (now (x .input)) (l .used) (o .result .next) (l .inv .0) (l .inv .1) (o .ensures .0) (o .ensures .1) (c .enum-told .given .1))
 
 enum-told-2 : tie.Need-enum-told-2 Inv-loop μ-loop
 enum-told-2 c = search needs
 
 returns-3 : tie.Need-returns-3 Inv-loop μ-loop
-returns-3 c = search needs
+returns-3 c =
+    let x = c .before .before .before .before .before .before .before .before .before .before .args in
+    let l = c .before .before .before .before .before .before .before .before .loop in
+    let o = c .before .before .before .before .before .take-one in
+    (l .inv .0, step-stop (x .desk) (l .desk) (o .result .desk) (now (x .input)) (l .used) (o .result .next) (l .inv .0) (l .inv .1) (o .ensures .0) (o .ensures .1) (c .enum-told2 .given .1))
 
 returns-4 : tie.Need-returns-4 Inv-loop μ-loop
-returns-4 c = search needs
+returns-4 c =
+    let l = c .before .loop in
+    (l .inv .0, l .inv .1 ∙ none-more (l .desk) (now (c .before .before .before .args .input)) (l .used) (c .loop-test .left))
 
 pub take-all-spec : {M : Type 1} → statement M
 take-all-spec =

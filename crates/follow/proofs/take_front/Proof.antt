@@ -1,10 +1,12 @@
--- What is taken is within what is there.
-use mathlib.Core.Path.{sym}
+-- What is kept of a packet that is not whole stands at the front, and is short.
+use mathlib.Core.Path.{refl, sym}
 use Prim.Native.Nat.{_≤_}
 use native.Mathlib.Omega.{arith}
 use denote.Ref.{now}
 use lib.ListN.{length, take}
 use lib.Seq.{length-take-le}
+use Rattle.follow.proofs.Moves.{moved-length}
+use Rattle.follow.proofs.Takes.{kept-front}
 use borrow.Author.Needs.{needs}
 use Rattle.follow.proofs.take_front.Statement.{statement}
 use Rattle.follow.proofs.take_front.Tie as tie
@@ -25,14 +27,25 @@ keep-requires : tie.Need-keep-requires
 keep-requires c κs =
     let x = c .before .before .before .before .before .before .before .args in
     let h : x .to ≤ length (now (x .input)) = c .before .before .before .before .before .before .before .pre in
-    let e : c .before .before .before .before .take-all .result .used ≤ length (take (x .to) (now (x .input))) = c .before .before .before .before .take-all .ensures in
-    (omega (arith, e, length-take-le (x .to) (now (x .input)) h), h)
+    (omega (arith, c .before .before .before .before .take-all .ensures .0, length-take-le (x .to) (now (x .input)) h), h)
 
 same-length : tie.Need-same-length
-same-length c = search needs
+same-length c =
+    let x = c .before .before .before .before .before .before .before .before .before .before .args in
+    let r = c .before .before .before .before .before .before .before .take-all in
+    let h : x .to ≤ length (now (x .input)) = c .before .before .before .before .before .before .before .before .before .before .pre in
+    let f : r .result .used ≤ x .to = omega (arith, r .ensures .0, length-take-le (x .to) (now (x .input)) h) in
+    rw (c .before .before .keep .ensures .1) (moved-length (r .result .used) (x .to) (now (x .input)) f h)
 
 returns : tie.Need-returns
-returns c = search needs
+returns c =
+    let x = c .before .before .before .before .before .before .before .before .before .before .args in
+    let r = c .before .before .before .before .before .before .before .take-all in
+    let k = c .before .before .keep in
+    let h : x .to ≤ length (now (x .input)) = c .before .before .before .before .before .before .before .before .before .before .pre in
+    let f : r .result .used ≤ x .to = omega (arith, r .ensures .0, length-take-le (x .to) (now (x .input)) h) in
+    let t = rw (c .before .before .before .before .enum-told .given .1) at (r .ensures .1) in
+    kept-front (x .desk) (r .result .desk) (now (x .input)) (k .last .0) (r .result .used) (x .to) (k .result) f h t (k .ensures .0) (k .ensures .1)
 
 enum-told-2 : tie.Need-enum-told-2
 enum-told-2 c = search needs
@@ -44,7 +57,10 @@ same-length-2 : tie.Need-same-length-2
 same-length-2 c = search needs
 
 returns-2 : tie.Need-returns-2
-returns-2 c = search needs
+returns-2 c =
+    let r = c .before .before .before .before .take-all in
+    let t = rw (c .before .enum-told2 .given .1) at (r .ensures .1) in
+    rw (c .stop .ensures .2, c .stop .ensures .0, c .stop .ensures .1) (omega arith, refl, t)
 
 enum-told-3 : tie.Need-enum-told-3
 enum-told-3 c = search needs
@@ -59,7 +75,7 @@ same-length-3 : tie.Need-same-length-3
 same-length-3 c = search needs
 
 returns-3 : tie.Need-returns-3
-returns-3 c = search needs
+returns-3 c = rw (c .stop2 .ensures .2, c .stop2 .ensures .1) (omega arith, refl, tt)
 
 pub take-front-spec : {M : Type 1} → statement M
 take-front-spec =
