@@ -1,18 +1,17 @@
 #!/bin/bash
 # usage: against-model.sh
 #
-# Compares packets, follower and `follow` with the plain model in rust/model, which was written from the scope alone. Needs the programs
-# `follow` and `desk` that `rt ci` leaves in target/bin, and cargo. Each set of packets is made by the model's generators and handed to both:
-# the lines of `follow`, and the whole state after each packet (274 bytes) by one follower for all and by one for each packet.
+# Compares `follow` with the plain model in rust/model, which was written from the scope alone. Needs the program `follow` that `rt ci` leaves in
+# target/bin, and cargo. Each set of packets is made by the model's generators and handed to both. (The follower's whole state after each packet is compared
+# through the C functions, by `boundary model`.)
 # Writes a line for each set, then how many packets were compared and, last, 'N passed, M failed'.
 set -u
 cd "$(dirname "$0")/.." || exit 2
 passed=0
 failed=0
 packets=0
-states=0
 if ! command -v cargo >/dev/null; then
-    echo "no cargo: the model cannot be built, and nothing is compared"
+    echo "no cargo: the model is not built, and nothing is compared"
     echo "0 passed, 1 failed"
     exit 1
 fi
@@ -26,7 +25,6 @@ if ! (cd rust/model && cargo --offline build --release) >"$work/log" 2>&1; then
 fi
 model=target/rust/release/model
 follow=target/bin/follow
-desk=target/bin/desk
 
 ok() { passed=$((passed + 1)); }
 bad() { # WHAT
@@ -47,24 +45,9 @@ lines() { # WHAT
     fi
 }
 
-# The whole state after each packet of the stream in $work/in.
-state() { # WHAT MODE ARGUMENT..
-    local what=$1 mode=$2
-    shift 2
-    $desk "$@" <"$work/in" >"$work/ours"
-    $model "$mode" <"$work/in" >"$work/model"
-    states=$((states + $(wc -c <"$work/model") / 274))
-    if cmp "$work/ours" "$work/model" >"$work/log" 2>&1; then ok; else
-        cat "$work/log"
-        bad "$what: $mode"
-    fi
-}
-
-all_three() { # GENERATOR..
+from_model() { # GENERATOR..
     $model "$@" >"$work/in"
     lines "$*"
-    state "$*" state
-    state "$*" state-each each
 }
 
 # Bytes given in hex.
@@ -75,22 +58,22 @@ bytes() { # HEX
 }
 
 before=$packets
-for seed in 1 2 3 4 5 6 7 8; do all_three gen-packets $seed 2000; done
+for seed in 1 2 3 4 5 6 7 8; do from_model gen-packets $seed 2000; done
 echo "valid packets and pictures, seeds 1 to 8: $((packets - before))"
 
 before=$packets
-for seed in 1 2 3 4; do all_three gen-damaged $seed 400; done
+for seed in 1 2 3 4; do from_model gen-damaged $seed 400; done
 echo "cut at every byte, longer by one, every byte replaced by 0, 1, 127, 128, 255 and its neighbours, seeds 1 to 4: $((packets - before))"
 
 before=$packets
-all_three gen-short
+from_model gen-short
 $model gen-short all >"$work/in"
 lines "gen-short all"
 echo "all strings of 1 to 3 bytes: $((packets - before))"
 
 before=$packets
-for seed in 1 2 3 4 5 6 7 8 9 10; do all_three gen-takes $seed 20000; done
-for seed in $(seq 11 110); do all_three gen-takes "$seed" 400; done
+for seed in 1 2 3 4 5 6 7 8 9 10; do from_model gen-takes $seed 20000; done
+for seed in $(seq 11 110); do from_model gen-takes "$seed" 400; done
 echo "lists with loss, repeats, reordering and damage, seeds 1 to 110: $((packets - before))"
 
 # The framing: every beginning of the example, every byte of it replaced, and lengths that are refused.
@@ -125,6 +108,6 @@ $model follow <"$work/in" >"$work/model"
 { head -c 5 "$work/in" && sleep 0.1 && tail -c +6 "$work/in" | head -c 100000 && sleep 0.1 && tail -c +100006 "$work/in"; } | $follow | cat >"$work/ours"
 if cmp "$work/ours" "$work/model"; then ok; else bad "input in pieces through a pipe"; fi
 
-echo "$packets lines and $states states compared"
+echo "$packets lines compared"
 echo "$passed passed, $failed failed"
 [ "$failed" -eq 0 ]

@@ -1,0 +1,175 @@
+-- What each C function returns and what it leaves in the bytes it is lent (docs/STATE.md). A call that is turned back leaves them as they were.
+use Prim.Native.Nat.{ℕ}
+use mathlib.Core.Bool.{Bool, true, false, cond, _&&_}
+use mathlib.Core.List.{List}
+use lib.Dec.{eqb, ltb}
+use lib.ListN.{length}
+use Rattle.records.specs.Charger.{chargerRow}
+use Rattle.records.specs.Psu.{psuRow}
+use Rattle.records.specs.declared.charger.Row as charger
+use Rattle.records.specs.declared.psu.Row as psu
+use Rattle.display.specs.declared.packet.EventPacket.{EventPacket}
+use Rattle.display.specs.declared.packet.Packet.{Packet}
+use Rattle.display.specs.declared.packet.Picture.{Picture}
+use Rattle.power_policy_service.specs.declared.config.OptionConfig.{OptionConfig}
+use Rattle.event.specs.Phase.{orderOf}
+use Rattle.event.specs.declared.memory.Records.{Records}
+use Rattle.event.specs.declared.memory.Registration.{Registration}
+use Rattle.event.specs.declared.phase.OptionOrder.{OptionOrder}
+use Rattle.event.specs.declared.phase.Phase.{Phase}
+use Rattle.service.specs.Service.{answerIn, startOf, openOf, answerOf}
+use Rattle.service.specs.declared.Service.{Service}
+use Rattle.service.specs.declared.Started.{Started}
+use Rattle.service.specs.declared.Step.{Step}
+use Rattle.service.specs.declared.Stepped.{Stepped}
+use Rattle.send.specs.Send.{sendPacket, sendPicture}
+use Rattle.send.specs.declared.SentPacket.{SentPacket}
+use Rattle.send.specs.declared.SentPicture.{SentPicture}
+use Rattle.wire.specs.Bytes.{eventBytes, pictureBytes}
+use Rattle.wire.specs.Read.{readPacket}
+use Rattle.wire.specs.declared.packet.ReadPacket.{ReadPacket}
+use Rattle.wire_writer.specs.Stored.{stored, writtenOf}
+use Rattle.wire_writer.specs.declared.Written.{Written}
+use Rattle.follower.specs.Follower.{fresh, taken, stateOf, consumerOf}
+use Rattle.follower.specs.declared.Follower.{Follower}
+use Rattle.follower.specs.declared.Shown.{Shown}
+use Rattle.follower.specs.declared.State.{State}
+use Rattle.service_image.specs.Image.{serviceBytes, serviceFrom}
+use Rattle.service_image.specs.declared.ReadService.{ReadService}
+use Rattle.follower_image.specs.Image.{followerBytes, followerFrom}
+use Rattle.follower_image.specs.declared.ReadFollower.{ReadFollower}
+use Rattle.calls.specs.declared.rows.Rows.{Rows}
+use Rattle.calls.specs.Numbers.{refusedNumber, orderNumber, closedNumber, stepNumber, writtenNumber, doneNumber, lostNumber, shownNumber, consumerNumber, trackedNumber}
+
+-- the number returned, and the bytes lent after the call
+pub record Called : Type 0 where
+  pub number : ℕ
+  pub bytes : List ℕ
+
+abbrev pub called : ℕ → List ℕ → Called
+called n b = record { number = n; bytes = b }
+
+-- turned back
+abbrev pub refusedCall : ℕ → List ℕ → Called
+refusedCall n b = called (refusedNumber n) b
+
+-- start: 20, then 21 for bytes of another length than an image's
+
+abbrev pub startedCall : List ℕ → Started → Called
+startedCall image (Started.Refused n) = refusedCall n image
+startedCall image (Started.Service s) = cond (eqb (length image) 67) (called doneNumber (serviceBytes s)) (refusedCall 21 image)
+
+abbrev pub startCall : List ℕ → OptionConfig → ℕ → ℕ → Called
+startCall image config ports chargers = startedCall image (startOf config ports chargers)
+
+-- the image of a service in bytes of its length; others stay
+abbrev pub putService : List ℕ → Service → List ℕ
+putService image s = cond (eqb (length image) 67) (serviceBytes s) image
+
+-- open and answer: 21, then 22 for records of another length or with a field out of range, then what turns the service's call back
+
+abbrev pub rowsOf : psu.Row → charger.Row → Rows
+rowsOf p c = record { ok = p .ok && c .ok; records = record { psus = p .psus; chargers = c .chargers } }
+
+abbrev pub steppedAt : List ℕ → Step → Service → Called
+steppedAt image (Step.Order o) s = called (orderNumber o) (putService image s)
+steppedAt image (Step.Closed a) s = called (closedNumber a) (putService image s)
+steppedAt image (Step.Refused n) s = refusedCall n image
+
+abbrev pub steppedCall : List ℕ → Stepped → Called
+steppedCall image x = steppedAt image (x .step) (x .service)
+
+abbrev pub withRows : List ℕ → Rows → (Records → Stepped) → Called
+withRows image r f = cond (r .ok) (steppedCall image (f (r .records))) (refusedCall 22 image)
+
+abbrev pub rowsIn : Registration → List ℕ → List ℕ → Rows
+rowsIn g psus chargers = rowsOf (psuRow (g .ports) psus) (chargerRow (g .chargers) chargers)
+
+abbrev pub onService : List ℕ → ReadService → List ℕ → List ℕ → (Service → Records → Stepped) → Called
+onService image ReadService.Refused psus chargers f = refusedCall 21 image
+onService image (ReadService.Read s) psus chargers f =
+    withRows image (rowsIn (s .registration) psus chargers) (f s)
+
+abbrev pub openCall : List ℕ → List ℕ → List ℕ → ℕ → ℕ → ℕ → Called
+openCall image psus chargers kind device detail =
+    onService image (serviceFrom image) psus chargers (λ s r. openOf s kind device detail r)
+
+abbrev pub answerCall : List ℕ → List ℕ → List ℕ → ℕ → Called
+answerCall image psus chargers a = onService image (serviceFrom image) psus chargers (λ s r. answerOf s a r)
+
+-- order: where the event stands
+
+abbrev pub standNumber : OptionOrder → Phase → ℕ
+standNumber OptionOrder.None p = closedNumber (answerIn p)
+standNumber (OptionOrder.Some o) p = orderNumber o
+
+abbrev pub orderCall : ReadService → ℕ
+orderCall ReadService.Refused = refusedNumber 21
+orderCall (ReadService.Read s) = standNumber (orderOf (s .phase)) (s .phase)
+
+-- both writes, into a buffer: 21, then 25 and 27, then 29 for a buffer under 64 bytes; bytes past what is written stay
+
+abbrev pub writtenAs : Written → ℕ
+writtenAs (Written.Refused n) = refusedNumber n
+writtenAs (Written.Length n) = writtenNumber n
+
+abbrev pub writtenCall : List ℕ → List ℕ → Called
+writtenCall bytes buffer = called (writtenAs (writtenOf bytes buffer)) (stored bytes buffer)
+
+abbrev pub packetCall : SentPacket → List ℕ → Called
+packetCall (SentPacket.Refused n) buffer = refusedCall n buffer
+packetCall (SentPacket.Packet e) buffer = writtenCall (eventBytes e) buffer
+
+abbrev pub pictureCall : SentPicture → List ℕ → Called
+pictureCall (SentPicture.Refused n) buffer = refusedCall n buffer
+pictureCall (SentPicture.Picture p) buffer = writtenCall (pictureBytes p) buffer
+
+abbrev pub writePacketCall : ReadService → List ℕ → Called
+writePacketCall ReadService.Refused buffer = refusedCall 21 buffer
+writePacketCall (ReadService.Read s) buffer = packetCall (sendPacket s) buffer
+
+abbrev pub writePictureCall : ReadService → List ℕ → Called
+writePictureCall ReadService.Refused buffer = refusedCall 21 buffer
+writePictureCall (ReadService.Read s) buffer = pictureCall (sendPicture s) buffer
+
+-- the follower
+
+-- the image of a follower in bytes of its length; others stay
+abbrev pub putFollower : List ℕ → Follower → List ℕ
+putFollower image f = cond (eqb (length image) 241) (followerBytes f) image
+
+abbrev pub followerStartCall : List ℕ → Called
+followerStartCall image = cond (eqb (length image) 241) (called doneNumber (followerBytes fresh)) (refusedCall 21 image)
+
+abbrev pub takenCall : List ℕ → Follower → ReadPacket → Called
+takenCall image f (ReadPacket.Refused n) = refusedCall n image
+takenCall image f (ReadPacket.Packet p) = called doneNumber (putFollower image (taken f p))
+
+-- 21, then the first of 30 to 33 from the left
+abbrev pub takeOn : List ℕ → ReadFollower → List ℕ → Called
+takeOn image r packet = cond (r .ok) (takenCall image (r .follower) (readPacket packet)) (refusedCall 21 image)
+
+abbrev pub takeCall : List ℕ → List ℕ → Called
+takeCall image packet = takeOn image (followerFrom image) packet
+
+-- what is shown
+
+abbrev pub shownAs : State → Shown → ℕ
+shownAs t (Shown.Lost floor) = lostNumber
+shownAs t (Shown.Picture s) = shownNumber t (s .number) (s .display)
+
+abbrev pub trackedIn : Shown → ℕ
+trackedIn (Shown.Lost floor) = trackedNumber (record { mask = 0 })
+trackedIn (Shown.Picture s) = trackedNumber (s .display .providers)
+
+abbrev pub readerCall : ReadFollower → (Follower → ℕ) → ℕ
+readerCall r f = cond (r .ok) (f (r .follower)) (refusedNumber 21)
+
+abbrev pub shownCall : ReadFollower → ℕ
+shownCall r = readerCall r (λ f. shownAs (stateOf f) (f .shown))
+
+abbrev pub consumerCall : ReadFollower → ℕ
+consumerCall r = readerCall r (λ f. consumerNumber (consumerOf (f .shown)))
+
+abbrev pub trackedCall : ReadFollower → ℕ
+trackedCall r = readerCall r (λ f. trackedIn (f .shown))

@@ -1,0 +1,104 @@
+-- The 64-bit number that a C function returns (docs/STATE.md): its low byte says what happened, the other bytes what belongs to it.
+use Prim.Native.Nat.{ℕ, _+_, _*_, _/_, _%_, _^_}
+use mathlib.Core.Bool.{Bool}
+use Rattle.power_policy_interface.specs.Capability.{bit, consumerFlagsByte, providerFlagsByte}
+use Rattle.power_policy_interface.specs.Psu.{errorByte, kindNumber}
+use Rattle.power_policy_interface.specs.declared.capability.ConsumerPowerCapability.{ConsumerPowerCapability}
+use Rattle.power_policy_interface.specs.declared.capability.PowerCapability.{PowerCapability}
+use Rattle.power_policy_interface.specs.declared.capability.ProviderPowerCapability.{ProviderPowerCapability}
+use Rattle.power_policy_interface.specs.declared.psu.Error.{Error}
+use Rattle.power_policy_interface.specs.declared.psu.OptionMismatch.{OptionMismatch}
+use Rattle.power_policy_interface.specs.declared.psu.Result.{Result}
+use Rattle.display.specs.Providers.{len}
+use Rattle.display.specs.declared.Display.{Display}
+use Rattle.display.specs.declared.OptionAvailableConsumer.{OptionAvailableConsumer}
+use Rattle.display.specs.declared.providers.Providers.{Providers}
+use Rattle.event.specs.declared.phase.Order.{Order}
+use Rattle.follower.specs.declared.State.{State}
+use Rattle.service.specs.declared.Step.{Step}
+
+-- four bytes and two numbers of two bytes, lowest first
+abbrev pub packed : ℕ → ℕ → ℕ → ℕ → ℕ → ℕ → ℕ
+packed what a b c d e = what + 256 * a + 65536 * b + 16777216 * c + 4294967296 * d + 281474976710656 * e
+
+abbrev pub refusedNumber : ℕ → ℕ
+refusedNumber n = packed 0 n 0 0 0 0
+
+-- an order: its kind, its device, and the capability of a connect or attach order
+
+abbrev pub bareOrder : ℕ → ℕ → ℕ
+bareOrder kind device = packed 1 kind device 0 0 0
+
+abbrev pub capabilityOrder : ℕ → ℕ → ℕ → PowerCapability → ℕ
+capabilityOrder kind device flags c = packed 1 kind device flags (c .«voltage_mv») (c .«current_ma»)
+
+abbrev pub orderNumber : Order → ℕ
+orderNumber (Order.Disconnect p) = bareOrder 0 p
+orderNumber (Order.ConnectConsumer p c) = capabilityOrder 1 p (consumerFlagsByte (c .flags)) (c .capability)
+orderNumber (Order.ConnectProvider p c) = capabilityOrder 2 p (providerFlagsByte (c .flags)) (c .capability)
+orderNumber (Order.IsReady i) = bareOrder 3 i
+orderNumber (Order.InitCharger i) = bareOrder 4 i
+orderNumber (Order.Attach i c) = capabilityOrder 5 i (consumerFlagsByte (c .flags)) (c .capability)
+orderNumber (Order.Detach i) = bareOrder 6 i
+orderNumber Order.Wait = bareOrder 7 0
+
+-- a close: the answer byte, and the states of a ported transition's InvalidState
+
+abbrev pub expectedIn : OptionMismatch → ℕ
+expectedIn OptionMismatch.None = 0
+expectedIn (OptionMismatch.Some m) = m .expected
+
+abbrev pub actualIn : OptionMismatch → ℕ
+actualIn OptionMismatch.None = 0
+actualIn (OptionMismatch.Some m) = kindNumber (m .actual)
+
+abbrev pub mismatchIn : Error → OptionMismatch
+mismatchIn Error.InvalidDevice = OptionMismatch.None
+mismatchIn Error.CannotProvide = OptionMismatch.None
+mismatchIn Error.CannotConsume = OptionMismatch.None
+mismatchIn (Error.InvalidState m) = m
+mismatchIn Error.InvalidResponse = OptionMismatch.None
+mismatchIn Error.Busy = OptionMismatch.None
+mismatchIn Error.Timeout = OptionMismatch.None
+mismatchIn Error.Bus = OptionMismatch.None
+mismatchIn Error.Charger = OptionMismatch.None
+mismatchIn Error.Failed = OptionMismatch.None
+
+abbrev pub closedNumber : Result → ℕ
+closedNumber Result.Ok = packed 2 0 0 0 0 0
+closedNumber (Result.Err e) = packed 2 (errorByte e) (expectedIn (mismatchIn e)) (actualIn (mismatchIn e)) 0 0
+
+abbrev pub stepNumber : Step → ℕ
+stepNumber (Step.Order o) = orderNumber o
+stepNumber (Step.Closed a) = closedNumber a
+stepNumber (Step.Refused n) = refusedNumber n
+
+-- so many bytes, at most 64
+abbrev pub writtenNumber : ℕ → ℕ
+writtenNumber length = packed 3 (length % 256) 0 0 0 0
+
+abbrev pub doneNumber : ℕ
+doneNumber = packed 4 0 0 0 0 0
+
+-- what a follower shows
+
+abbrev pub stateNumber : State → ℕ
+stateNumber State.Lost = 0
+stateNumber State.Level = 1
+stateNumber State.Waiting = 2
+
+abbrev pub lostNumber : ℕ
+lostNumber = packed 5 0 0 0 0 0
+
+abbrev pub shownNumber : State → ℕ → Display → ℕ
+shownNumber s n d =
+    packed 5 (stateNumber s) (bit (d .unconstrained .unconstrained)) (d .unconstrained .available) (n % 65536) (n / 65536)
+
+abbrev pub consumerNumber : OptionAvailableConsumer → ℕ
+consumerNumber OptionAvailableConsumer.None = packed 6 0 0 0 0 0
+consumerNumber (OptionAvailableConsumer.Some c) =
+    packed 6 1 (c .psu) (consumerFlagsByte (c .«consumer_power_capability» .flags))
+    (c .«consumer_power_capability» .capability .«voltage_mv») (c .«consumer_power_capability» .capability .«current_ma»)
+
+abbrev pub trackedNumber : Providers → ℕ
+trackedNumber t = packed 7 (len t) (t .mask % 256) (t .mask / 256) 0 0

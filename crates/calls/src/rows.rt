@@ -1,0 +1,32 @@
+// The records of a call, read from their bytes.
+use event::memory::Records;
+use event::memory::Registration;
+ghost use mathlib.Core.Path.{_≡_};
+ghost use Rattle.calls.specs.Calls.{rowsOf, rowsIn};
+
+// The records of all ports and chargers, and whether their bytes are those of records.
+pub struct Rows {
+    pub ok: bool,
+    pub records: Records,
+}
+
+fn rows_of(p: records::psu::Row, c: records::charger::Row) -> Rows
+    ensures { λ r. ⌜ r ≡ rowsOf p c ⌝ }
+{
+    let psus = p.psus;
+    let chargers = c.chargers;
+    let records = Records { psus, chargers };
+    if p.ok {
+        return Rows { ok: c.ok, records };
+    }
+    Rows { ok: false, records }
+}
+
+// The records of the ports and chargers registered.
+pub fn read_rows(registration: Registration, psus: &[u8], chargers: &[u8]) -> Rows
+    ensures { λ r. ⌜ r ≡ rowsIn registration (now (psus .entry)) (now (chargers .entry)) ⌝ }
+{
+    let p = records::psu::read_row(psus, registration.ports as usize);
+    let c = records::charger::read_row(chargers, registration.chargers as usize);
+    rows_of(p, c)
+}

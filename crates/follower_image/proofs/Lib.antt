@@ -1,0 +1,7 @@
+pub mod Notices
+pub mod Slots
+pub mod Rows
+pub mod Readers
+pub mod OneImage
+pub mod Tracked
+pub mod Takes

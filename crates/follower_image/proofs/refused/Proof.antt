@@ -1,0 +1,13 @@
+-- The follower is a fresh one.
+use borrow.Author.Needs.{needs}
+use Rattle.follower_image.proofs.refused.Statement.{statement}
+use Rattle.follower_image.proofs.refused.Tie as tie
+
+new-requires : tie.Need-new-requires
+new-requires c κs = search needs
+
+returns : tie.Need-returns
+returns c = rw (c .new .ensures)
+
+pub refused-spec : {M : Type 1} → statement M
+refused-spec = tie.close (tie.spec new-requires returns)

@@ -1,0 +1,76 @@
+-- The follower's image of 241 bytes (docs/STATE.md): 2, lost or showing, the number, the display and the seven slots.
+use Prim.Native.Nat.{ℕ}
+use mathlib.Core.Bool.{Bool, true, false, cond, _&&_}
+use mathlib.Core.List.{List, [], _∷_, _++_}
+use mathlib.Core.Option.{Option, none, some}
+use lib.Dec.{eqb, leb}
+use lib.ListN.{length, getD, drop, replicate}
+use Rattle.display.specs.Providers.{len}
+use Rattle.display.specs.declared.Display.{Display}
+use Rattle.display.specs.declared.OptionAvailableConsumer.{OptionAvailableConsumer}
+use Rattle.display.specs.declared.packet.Picture.{Picture}
+use Rattle.follower.specs.Follower.{lost, showing, at, fresh}
+use Rattle.follower.specs.declared.Follower.{Follower}
+use Rattle.follower.specs.declared.Shown.{Shown}
+use Rattle.follower.specs.declared.held.Held.{Held}
+use Rattle.image.specs.Quad.{quadAt, quadBytes, numberQuad, numberFrom}
+use Rattle.image.specs.Shown.{shownAt, displayBytes, displayFrom}
+use Rattle.image.specs.declared.shown.ReadDisplay.{ReadDisplay}
+use Rattle.follower_image.specs.Slot.{zeros}
+use Rattle.follower_image.specs.Held.{heldBytes, heldFrom}
+use Rattle.follower_image.specs.declared.ReadFollower.{ReadFollower}
+
+-- writing
+
+-- lost, nothing is shown or held
+abbrev pub lostBytes : ℕ → List ℕ
+lostBytes floor = 2 ∷ 0 ∷ (quadBytes (numberQuad floor) ++ replicate 235 0)
+
+abbrev pub showingBytes : Picture → Held → List ℕ
+showingBytes s h = 2 ∷ 1 ∷ (quadBytes (numberQuad (s .number)) ++ (displayBytes (s .display) ++ heldBytes (s .number) h))
+
+abbrev pub bytesAt : Shown → Held → List ℕ
+bytesAt (Shown.Lost floor) h = lostBytes floor
+bytesAt (Shown.Picture s) h = showingBytes s h
+
+abbrev pub followerBytes : Follower → List ℕ
+followerBytes f = bytesAt (f .shown) (f .held)
+
+-- reading
+
+abbrev pub lostIn : List ℕ → Option Follower
+lostIn b = cond (zeros (drop 6 b)) (some (lost (numberFrom (quadAt b 2)))) none
+
+abbrev pub portFits : OptionAvailableConsumer → Bool
+portFits OptionAvailableConsumer.None = true
+portFits (OptionAvailableConsumer.Some c) = leb (c .psu) 15
+
+-- ports 0 to 15, available 0 to 16, at most four tracked
+abbrev pub displayFits : Display → Bool
+displayFits d = portFits (d .consumer) && (leb (d .unconstrained .available) 16 && leb (len (d .providers)) 4)
+
+abbrev pub showingWith : Picture → Option Held → Option Follower
+showingWith s none = none
+showingWith s (some h) = some (showing s h)
+
+abbrev pub showingOf : ℕ → ReadDisplay → Option Held → Option Follower
+showingOf n ReadDisplay.Refused h = none
+showingOf n (ReadDisplay.Read d) h = cond (displayFits d) (showingWith (at n d) h) none
+
+abbrev pub showingIn : List ℕ → Option Follower
+showingIn b = showingOf (numberFrom (quadAt b 2)) (displayFrom (shownAt b 6)) (heldFrom (numberFrom (quadAt b 2)) (drop 17 b))
+
+abbrev pub followerCases : List ℕ → List (Option Follower)
+followerCases b = lostIn b ∷ showingIn b ∷ []
+
+-- each group in its one form and in its range: what is read is well formed (proofs/OneImage.antt)
+abbrev pub followerIn : List ℕ → Option Follower
+followerIn b = cond (eqb (length b) 241 && eqb (getD b 0 0) 2) (getD (followerCases b) (getD b 1 0) none) none
+
+-- bytes that are refused are read as a fresh follower that is not ok
+abbrev pub followerRead : Option Follower → ReadFollower
+followerRead none = record { ok = false; follower = fresh }
+followerRead (some f) = record { ok = true; follower = f }
+
+abbrev pub followerFrom : List ℕ → ReadFollower
+followerFrom b = followerRead (followerIn b)

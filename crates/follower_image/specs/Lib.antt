@@ -1,0 +1,5 @@
+pub mod Notice
+pub mod Slot
+pub mod Held
+pub mod Fits
+pub mod Image

@@ -1,0 +1,4 @@
+pub mod Places
+pub mod Quads
+pub mod Consumers
+pub mod Displays

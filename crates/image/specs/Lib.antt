@@ -1,0 +1,3 @@
+pub mod Quad
+pub mod Tagged
+pub mod Shown

@@ -1,0 +1,4 @@
+pub mod Good
+pub mod Steps
+pub mod Invariant
+pub mod Bound

@@ -1,0 +1,183 @@
+-- The service's image through a run: the bytes of a well-formed service are read as this service, so that a call leaves the bytes of the service after
+-- it. A call that is turned back leaves both, and every call leaves what the start registered.
+use mathlib.Core.Path.{_≡_, refl, sym, ap, _∙_}
+use mathlib.Core.Bool.{Bool, true, false, cond}
+use mathlib.Core.List.{List, [], _∷_, _++_}
+use Prim.Native.Nat.{ℕ}
+use lib.Dec.{eqb, ltb}
+use lib.ListN.{length}
+use borrow.Author.Tests.{eq-eqb}
+use Rattle.power_policy_interface.specs.declared.psu.Result.{Result}
+use Rattle.event.specs.Phase.{orderOf}
+use Rattle.event.specs.declared.memory.Records.{Records}
+use Rattle.event.specs.declared.memory.Registration.{Registration}
+use Rattle.event.specs.declared.phase.OptionOrder.{OptionOrder}
+use Rattle.event.specs.declared.phase.Turn.{Turn}
+use Rattle.process.specs.Process.{answeredOf, processOf}
+use Rattle.service.specs.Refusals.{firstRefused, openRefusals, answerRefusals}
+use Rattle.service.specs.Service.{stepped, refused, movedBy, clearedOf, eventOf, openedOf, openOf, orderIn, resultOf, answeredBy, answerOf}
+use Rattle.service.specs.declared.Service.{Service}
+use Rattle.service.specs.declared.Step.{Step}
+use Rattle.service.specs.declared.Stepped.{Stepped}
+use Rattle.run.specs.Policy as policy
+use Rattle.run.specs.Policy.{Call}
+use Rattle.run.specs.Run.{after, services}
+use Rattle.run.specs.Sized.{CallsFit}
+use Rattle.run.proofs.Rows.{row-fits}
+use Rattle.service_image.specs.Image.{serviceBytes, serviceFrom}
+use Rattle.service_image.specs.declared.ReadService.{ReadService}
+use Rattle.service_image.proofs.Service.{service-read-write}
+use Rattle.service_image.proofs.Stored.{service-length}
+use Rattle.invariant.proofs.Good.{Good}
+use Rattle.invariant.proofs.Invariant.{services-good}
+use Rattle.calls.specs.Calls.{putService, steppedAt, steppedCall, refusedCall, withRows, rowsIn, onService}
+use Rattle.calls.specs.declared.rows.Rows.{Rows}
+use Rattle.run_image.specs.Calls.{ByteCall, openEvent, giveAnswer, readOrder, writePacket, writePicture, imageAfter, images, CallBytes, CallsBytes}
+use Rattle.run_image.specs.Definition.{onRows, callOf, callsOf}
+
+-- what a call leaves of the service
+
+-- turned back, the service is as it was
+abbrev BackAt : Service → Step → Service → Type 0
+BackAt s (Step.Order o) t = Unit {0}
+BackAt s (Step.Closed a) t = Unit {0}
+BackAt s (Step.Refused n) t = t ≡ s
+
+-- and in any case what is registered is
+record Keeps (s : Service) (x : Stepped) : Type 0 where
+  back : BackAt s (x .step) (x .service)
+  registered : x .service .registration ≡ s .registration
+
+moved-keeps : (s : Service) (o : OptionOrder) (n k : ℕ) (t : Turn) → Keeps s (movedBy o (s .registration) n k t)
+moved-keeps s OptionOrder.None n k t = record { back = tt; registered = refl }
+moved-keeps s (OptionOrder.Some o) n k t = record { back = tt; registered = refl }
+
+open-keeps : (s : Service) (kind device detail : ℕ) (r : Records) → Keeps s (openOf s kind device detail r)
+open-keeps s kind device detail r = go (eqb n 0) (eqb kind 5)
+  where
+    n : ℕ
+    n = firstRefused (openRefusals s kind device detail)
+
+    t : Turn
+    t = processOf (s .registration) (clearedOf s) device (eventOf kind detail) r
+
+    go : (a b : Bool) → Keeps s (cond a (cond b (stepped (Step.Closed Result.Ok) s) (openedOf s device (eventOf kind detail) r)) (refused n s))
+    go true true = record { back = tt; registered = refl }
+    go true false = moved-keeps s (orderOf (t .phase)) (s .number) 0 t
+    go false b = record { back = refl; registered = refl }
+
+answer-keeps : (s : Service) (a : ℕ) (r : Records) → Keeps s (answerOf s a r)
+answer-keeps s a r = go (eqb n 0)
+  where
+    n : ℕ
+    n = firstRefused (answerRefusals s a)
+
+    t : Turn
+    t = answeredOf (s .registration) (s .phase) (orderIn (orderOf (s .phase))) (s .memory) (resultOf a) r
+
+    go : (b : Bool) → Keeps s (cond b (answeredBy s (orderIn (orderOf (s .phase))) (resultOf a) r) (refused n s))
+    go true = moved-keeps s (orderOf (t .phase)) (s .number) (s .orders) t
+    go false = record { back = refl; registered = refl }
+
+after-registration : (s : Service) (c : Call) → after s c .registration ≡ s .registration
+after-registration s (policy.openEvent kind device detail r) = open-keeps s kind device detail r .registered
+after-registration s (policy.giveAnswer a r) = answer-keeps s a r .registered
+after-registration s policy.writePacket = refl
+after-registration s policy.writePicture = refl
+
+pub services-registration : (l : List Call) (s : Service) → services s l .registration ≡ s .registration
+services-registration [] s = refl
+services-registration (c ∷ l) s = services-registration l (after s c) ∙ after-registration s c
+
+pub services-on : (l m : List Call) (s : Service) → services s (l ++ m) ≡ services (services s l) m
+services-on [] m s = refl
+services-on (c ∷ l) m s = services-on l m (after s c)
+
+-- records that are read from bytes have their figures within their types
+
+call-fits : (g : Registration) (c : ByteCall) → CallBytes c → CallsFit (callOf g c)
+call-fits g (openEvent psus chargers kind device detail) b = go (rowsIn g psus chargers .ok)
+  where
+    go : (t : Bool) → CallsFit (cond t (policy.openEvent kind device detail (rowsIn g psus chargers .records) ∷ []) [])
+    go true = (row-fits (g .ports) psus (rowsIn g psus chargers .records .chargers) b, tt)
+    go false = tt
+call-fits g (giveAnswer psus chargers a) b = go (rowsIn g psus chargers .ok)
+  where
+    go : (t : Bool) → CallsFit (cond t (policy.giveAnswer a (rowsIn g psus chargers .records) ∷ []) [])
+    go true = (row-fits (g .ports) psus (rowsIn g psus chargers .records .chargers) b, tt)
+    go false = tt
+call-fits g readOrder b = tt
+call-fits g (writePacket buffer) b = go (ltb (length buffer) 64)
+  where
+    go : (t : Bool) → CallsFit (cond t [] (policy.writePacket ∷ []))
+    go true = tt
+    go false = (tt, tt)
+call-fits g (writePicture buffer) b = go (ltb (length buffer) 64)
+  where
+    go : (t : Bool) → CallsFit (cond t [] (policy.writePicture ∷ []))
+    go true = tt
+    go false = (tt, tt)
+
+fits-on : (l m : List Call) → CallsFit l → CallsFit m → CallsFit (l ++ m)
+fits-on [] m x y = y
+fits-on (c ∷ l) m x y = (x .0, fits-on l m (x .1) y)
+
+pub calls-fit : (g : Registration) (l : List ByteCall) → CallsBytes l → CallsFit (callsOf g l)
+calls-fit g [] b = tt
+calls-fit g (c ∷ l) b = fits-on (callOf g c) (callsOf g l) (call-fits g c (b .0)) (calls-fit g l (b .1))
+
+-- one call on an image
+
+pub image-read : (s : Service) → Good s → serviceFrom (serviceBytes s) ≡ ReadService.Read s
+image-read s h = service-read-write s (h .typed) (h .fits)
+
+put-is : (s t : Service) → putService (serviceBytes s) t ≡ serviceBytes t
+put-is s t = ap (λ (x : Bool). cond x (serviceBytes t) (serviceBytes s)) (eq-eqb (length (serviceBytes s)) 67 (service-length s))
+
+stepped-bytes : (s : Service) (x : Step) (t : Service) → BackAt s x t → steppedAt (serviceBytes s) x t .bytes ≡ serviceBytes t
+stepped-bytes s (Step.Order o) t b = put-is s t
+stepped-bytes s (Step.Closed a) t b = put-is s t
+stepped-bytes s (Step.Refused n) t b = ap serviceBytes (sym b)
+
+rows-bytes : (s : Service) (r : Rows) (f : Records → Stepped) (c : Records → Call) → ((x : Records) → Keeps s (f x)) → ((x : Records) → f x .service ≡ after s (c x)) →
+    withRows (serviceBytes s) r f .bytes ≡ serviceBytes (services s (onRows r c))
+rows-bytes s r f c k e = go (r .ok)
+  where
+    go : (t : Bool) → cond t (steppedCall (serviceBytes s) (f (r .records))) (refusedCall 22 (serviceBytes s)) .bytes ≡ serviceBytes (services s (cond t (c (r .records) ∷ []) []))
+    go true = stepped-bytes s (f (r .records) .step) (f (r .records) .service) (k (r .records) .back) ∙ ap serviceBytes (e (r .records))
+    go false = refl
+
+pub image-after : (s : Service) (c : ByteCall) → Good s → imageAfter (serviceBytes s) c ≡ serviceBytes (services s (callOf (s .registration) c))
+image-after s (openEvent psus chargers kind device detail) h =
+    ap (λ (x : ReadService). onService (serviceBytes s) x psus chargers (λ t r. openOf t kind device detail r) .bytes) (image-read s h)
+    ∙ rows-bytes s (rowsIn (s .registration) psus chargers) (λ r. openOf s kind device detail r) (λ r. policy.openEvent kind device detail r)
+    (λ r. open-keeps s kind device detail r) (λ r. refl)
+image-after s (giveAnswer psus chargers a) h =
+    ap (λ (x : ReadService). onService (serviceBytes s) x psus chargers (λ t r. answerOf t a r) .bytes) (image-read s h)
+    ∙ rows-bytes s (rowsIn (s .registration) psus chargers) (λ r. answerOf s a r) (λ r. policy.giveAnswer a r) (λ r. answer-keeps s a r) (λ r. refl)
+image-after s readOrder h = refl
+image-after s (writePacket buffer) h = go (ltb (length buffer) 64)
+  where
+    go : (t : Bool) → serviceBytes s ≡ serviceBytes (services s (cond t [] (policy.writePacket ∷ [])))
+    go true = refl
+    go false = refl
+image-after s (writePicture buffer) h = go (ltb (length buffer) 64)
+  where
+    go : (t : Bool) → serviceBytes s ≡ serviceBytes (services s (cond t [] (policy.writePicture ∷ [])))
+    go true = refl
+    go false = refl
+
+pub call-good : (s : Service) (c : ByteCall) → CallBytes c → Good s → Good (services s (callOf (s .registration) c))
+call-good s c b h = services-good (callOf (s .registration) c) s (call-fits (s .registration) c b) h
+
+-- a list of them
+
+pub images-are : (l : List ByteCall) (s : Service) → CallsBytes l → Good s → images (serviceBytes s) l ≡ serviceBytes (services s (callsOf (s .registration) l))
+images-are [] s b h = refl
+images-are (c ∷ l) s b h =
+    let g = s .registration in
+    let t = services s (callOf g c) in
+    ap (λ (x : List ℕ). images x l) (image-after s c h)
+    ∙ (images-are l t (b .1) (call-good s c (b .0) h)
+    ∙ (ap (λ (x : Registration). serviceBytes (services t (callsOf x l))) (services-registration (callOf g c) s)
+    ∙ ap serviceBytes (sym (services-on (callOf g c) (callsOf g l) s))))

@@ -1,0 +1,9 @@
+pub mod Images
+pub mod Numbers
+pub mod Turned
+pub mod Returns
+pub mod Bounds
+pub mod Written
+pub mod Takes
+pub mod Linked
+pub mod Demands

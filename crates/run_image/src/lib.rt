@@ -1,0 +1,1 @@
+// Theorems over runs of the C functions on bytes; no code.

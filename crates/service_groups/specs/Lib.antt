@@ -1,0 +1,4 @@
+pub mod Registration
+pub mod State
+pub mod Phase
+pub mod Notices

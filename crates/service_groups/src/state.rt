@@ -1,0 +1,90 @@
+// What is held between events, as 12 bytes: the display and the power state.
+use display::Display;
+use event::memory::InternalState;
+use image::place;
+use image::shown::ReadDisplay;
+use image::shown::Shown;
+use power_policy_service::provider::PowerState;
+ghost use mathlib.Core.Path.{_≡_};
+ghost use lib.ListN.{getD};
+ghost use lib.Seq.{sets};
+ghost use Rattle.image.specs.Shown.{shownAt};
+ghost use Rattle.service_groups.specs.State.{heldBytes, powerByte, displayed, powerStateFrom, stateFrom};
+
+// What reading a power state finds.
+pub enum ReadPowerState {
+    Refused,
+    Read(PowerState),
+}
+
+// What reading the state finds.
+pub enum ReadState {
+    Refused,
+    Read(InternalState),
+}
+
+// 0 Unlimited, 1 Limited.
+fn power_byte(p: PowerState) -> u8
+    ensures { λ r. ⌜ r ≡ powerByte p ⌝ }
+{
+    match p {
+        PowerState::Unlimited => 0,
+        PowerState::Limited => 1,
+    }
+}
+
+fn power_state(b: u8) -> ReadPowerState
+    ensures { λ r. ⌜ r ≡ powerStateFrom b ⌝ }
+{
+    match b {
+        0 => ReadPowerState::Read(PowerState::Unlimited),
+        1 => ReadPowerState::Read(PowerState::Limited),
+        _ => ReadPowerState::Refused,
+    }
+}
+
+// The part of the state that a display shows.
+fn displayed(s: InternalState) -> Display
+    ensures { λ r. ⌜ r ≡ displayed s ⌝ }
+{
+    let consumer = s.current_consumer_state;
+    let unconstrained = s.unconstrained;
+    let providers = s.connected_providers;
+    Display {
+        consumer,
+        unconstrained,
+        providers,
+    }
+}
+
+// Bytes 24 to 35; refused for bytes that no state is written as.
+pub fn read_state(s: &[u8]) -> ReadState
+    ensures { λ r. ⌜ r ≡ stateFrom (shownAt (now (s .entry)) 24) (getD (now (s .entry)) 35 0) ⌝ }
+{
+    let ReadDisplay::Read(d) = Shown::at(s, 24).display() else {
+        return ReadState::Refused;
+    };
+    let ReadPowerState::Read(current_provider_state) = power_state(place::byte(s, 35, 0)) else {
+        return ReadState::Refused;
+    };
+    let current_consumer_state = d.consumer;
+    let unconstrained = d.unconstrained;
+    let connected_providers = d.providers;
+    ReadState::Read(InternalState {
+        current_consumer_state,
+        current_provider_state,
+        unconstrained,
+        connected_providers,
+    })
+}
+
+// Stores bytes 24 to 36.
+pub fn put_held(image: &mut [u8], s: InternalState, orders: u8)
+    ensures { λ r. ⌜ now (image .exit) ≡ sets (now (image .entry)) 24 (heldBytes s orders) ⌝ }
+{
+    let power = s.current_provider_state;
+    let a = Shown::of_display(displayed(s)).bytes();
+    let b = [power_byte(power), orders];
+    place::put(image, 24, &a);
+    place::put(image, 35, &b);
+}

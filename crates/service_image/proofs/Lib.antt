@@ -1,0 +1,9 @@
+pub mod Fits
+pub mod Masks
+pub mod Orders
+pub mod Registrations
+pub mod States
+pub mod Phases
+pub mod Told
+pub mod Stored
+pub mod Service

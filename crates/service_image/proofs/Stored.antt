@@ -1,0 +1,25 @@
+-- The four parts of the image, stored one after the other in 67 bytes, are the image.
+-- Assumes nothing.
+use mathlib.Core.Path.{_≡_, refl, sym}
+use mathlib.Core.List.{List}
+use Prim.Native.Nat.{ℕ}
+use lib.ListN.{length}
+use lib.Seq.{sets}
+use Rattle.image.proofs.Places.{sets-all}
+use Rattle.service.specs.declared.Service.{Service}
+use Rattle.service_groups.specs.Registration.{headBytes}
+use Rattle.service_groups.specs.State.{heldBytes}
+use Rattle.service_groups.specs.Phase.{phaseBytes}
+use Rattle.service_groups.specs.Notices.{noticesBytes}
+use Rattle.service_image.specs.Image.{serviceBytes}
+
+pub service-length : (s : Service) → length (serviceBytes s) ≡ 67
+unfolding serviceBytes
+service-length s = refl
+
+pub stored : (s : Service) (o : List ℕ) → length o ≡ 67
+    → sets (sets (sets (sets o 0 (headBytes (s .registration) (s .number))) 24 (heldBytes (s .memory .state) (s .orders))) 37 (phaseBytes (s .phase))) 47
+    (noticesBytes (s .memory .notices))
+    ≡ serviceBytes s
+unfolding serviceBytes
+stored s o e = sets-all (serviceBytes s) o (sym e)

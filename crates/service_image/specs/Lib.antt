@@ -1,0 +1,3 @@
+pub mod WellFormed
+pub mod Typed
+pub mod Image

@@ -1,0 +1,478 @@
+//! What a call returns, taken apart.
+
+use core::fmt;
+
+use crate::capability::{ConsumerPowerCapability, PowerCapability, ProviderPowerCapability};
+
+/// Why a call was turned back. It changed nothing.
+#[derive(Clone, Copy, Debug, PartialEq, Eq)]
+#[repr(u8)]
+pub enum Refusal {
+    /// Over 16 ports or 8 chargers, or a configuration figure over its type.
+    Configuration = 20,
+    /// Bytes that are no state's image.
+    Image = 21,
+    /// Records of wrong length or with a field out of range.
+    Records = 22,
+    /// A port or charger that is not registered.
+    Device = 23,
+    /// An unknown kind, reason, PSU state or answer, or an answer that the order cannot have.
+    Kind = 24,
+    /// An event is open.
+    Open = 25,
+    /// No order is open.
+    NoOrder = 26,
+    /// A packet before event 1.
+    NoEvent = 27,
+    /// A PSU event after number 4,294,967,295.
+    LastNumber = 28,
+    /// A buffer under 64 bytes.
+    Buffer = 29,
+    /// A packet that is cut short or empty.
+    CutShort = 30,
+    /// A number that is not in its shortest form or over its limit.
+    Number = 31,
+    /// A kind or field that is not as laid out.
+    Field = 32,
+    /// Bytes after the packet's end.
+    LeftOver = 33,
+}
+
+impl Refusal {
+    /// All, by their numbers.
+    pub const ALL: [Self; 14] = [
+        Self::Configuration,
+        Self::Image,
+        Self::Records,
+        Self::Device,
+        Self::Kind,
+        Self::Open,
+        Self::NoOrder,
+        Self::NoEvent,
+        Self::LastNumber,
+        Self::Buffer,
+        Self::CutShort,
+        Self::Number,
+        Self::Field,
+        Self::LeftOver,
+    ];
+
+    /// 20 to 33.
+    pub fn number(self) -> u8 {
+        self as u8
+    }
+
+    pub fn from_number(number: u8) -> Option<Self> {
+        Self::ALL
+            .into_iter()
+            .find(|refusal| refusal.number() == number)
+    }
+}
+
+/// A call that did not do what it was asked.
+#[derive(Clone, Copy, Debug, PartialEq, Eq)]
+pub enum Error {
+    Refused(Refusal),
+    /// A result that the functions do not give: the archive is not the one that this crate is for.
+    Unknown(u64),
+}
+
+impl fmt::Display for Error {
+    fn fmt(&self, f: &mut fmt::Formatter<'_>) -> fmt::Result {
+        match self {
+            Self::Refused(refusal) => write!(f, "refused {}", refusal.number()),
+            Self::Unknown(result) => write!(f, "unknown result {result:#x}"),
+        }
+    }
+}
+
+impl core::error::Error for Error {}
+
+/// A PSU's error. What it carries in the original is dropped.
+#[derive(Clone, Copy, Debug, PartialEq, Eq)]
+pub enum PsuError {
+    InvalidDevice = 1,
+    CannotProvide = 2,
+    CannotConsume = 3,
+    InvalidState = 4,
+    InvalidResponse = 5,
+    Busy = 6,
+    Timeout = 7,
+    Bus = 8,
+    Charger = 9,
+    Failed = 10,
+}
+
+impl PsuError {
+    fn from_number(number: u8) -> Option<Self> {
+        Some(match number {
+            1 => Self::InvalidDevice,
+            2 => Self::CannotProvide,
+            3 => Self::CannotConsume,
+            4 => Self::InvalidState,
+            5 => Self::InvalidResponse,
+            6 => Self::Busy,
+            7 => Self::Timeout,
+            8 => Self::Bus,
+            9 => Self::Charger,
+            10 => Self::Failed,
+            _ => return None,
+        })
+    }
+}
+
+/// A charger's error, whatever it was.
+#[derive(Clone, Copy, Debug, PartialEq, Eq)]
+pub struct ChargerError;
+
+/// An answer to an order.
+#[derive(Clone, Copy, Debug, PartialEq, Eq)]
+pub enum Answer {
+    Done,
+    /// A charger's order fails by [`PsuError::Charger`] alone, a wait not at all.
+    Failed(PsuError),
+}
+
+impl Answer {
+    /// 0 to 10.
+    pub fn number(self) -> u32 {
+        match self {
+            Self::Done => 0,
+            Self::Failed(error) => error as u32,
+        }
+    }
+}
+
+impl From<Result<(), PsuError>> for Answer {
+    fn from(result: Result<(), PsuError>) -> Self {
+        result.map_or_else(Self::Failed, |()| Self::Done)
+    }
+}
+
+impl From<Result<(), ChargerError>> for Answer {
+    fn from(result: Result<(), ChargerError>) -> Self {
+        result.map_or(Self::Failed(PsuError::Charger), |()| Self::Done)
+    }
+}
+
+/// An order to a device.
+#[derive(Clone, Copy, Debug, PartialEq, Eq)]
+pub enum Order {
+    Disconnect {
+        port: u8,
+    },
+    ConnectConsumer {
+        port: u8,
+        capability: ConsumerPowerCapability,
+    },
+    ConnectProvider {
+        port: u8,
+        capability: ProviderPowerCapability,
+    },
+    IsReady {
+        charger: u8,
+    },
+    InitCharger {
+        charger: u8,
+    },
+    Attach {
+        charger: u8,
+        capability: ConsumerPowerCapability,
+    },
+    Detach {
+        charger: u8,
+    },
+    /// [`crate::WAIT_MILLIS`] milliseconds.
+    Wait,
+}
+
+/// The kinds of a PSU's states.
+#[derive(Clone, Copy, Debug, PartialEq, Eq)]
+pub enum StateKind {
+    Detached = 0,
+    Idle = 1,
+    ConnectedProvider = 2,
+    ConnectedConsumer = 3,
+}
+
+impl StateKind {
+    fn from_number(number: u8) -> Option<Self> {
+        Some(match number {
+            0 => Self::Detached,
+            1 => Self::Idle,
+            2 => Self::ConnectedProvider,
+            3 => Self::ConnectedConsumer,
+            _ => return None,
+        })
+    }
+}
+
+/// A set of states, bit s for state s.
+#[derive(Clone, Copy, Debug, PartialEq, Eq)]
+pub struct StateSet(pub u8);
+
+impl StateSet {
+    pub fn contains(self, kind: StateKind) -> bool {
+        self.0 >> kind as u8 & 1 == 1
+    }
+}
+
+/// How an event ended.
+#[derive(Clone, Copy, Debug, PartialEq, Eq)]
+pub enum Outcome {
+    Done,
+    /// By the error of a device.
+    Failed(PsuError),
+    /// A port was not in one of the states that a connection needs.
+    WrongState {
+        expected: StateSet,
+        actual: StateKind,
+    },
+}
+
+/// Where an event stands.
+#[derive(Clone, Copy, Debug, PartialEq, Eq)]
+pub enum Reply {
+    /// It waits for the answer to this order.
+    Order(Order),
+    Closed(Outcome),
+}
+
+/// What a follower shows.
+#[derive(Clone, Copy, Debug, PartialEq, Eq)]
+pub enum Shown {
+    Lost,
+    /// Nothing is held.
+    Level(Figures),
+    /// A later packet is held.
+    Waiting(Figures),
+}
+
+#[derive(Clone, Copy, Debug, PartialEq, Eq)]
+pub struct Figures {
+    /// The number of the event shown.
+    pub number: u32,
+    pub unconstrained: bool,
+    pub available: u8,
+}
+
+/// A consumer shown.
+#[derive(Clone, Copy, Debug, PartialEq, Eq)]
+pub struct Consumer {
+    pub port: u8,
+    pub capability: ConsumerPowerCapability,
+}
+
+/// Tracked ports, bit p for port p.
+#[derive(Clone, Copy, Debug, PartialEq, Eq)]
+pub struct Tracked(pub u16);
+
+impl Tracked {
+    pub fn contains(self, port: u8) -> bool {
+        u32::from(self.0)
+            .checked_shr(port.into())
+            .is_some_and(|ports| ports & 1 == 1)
+    }
+
+    pub fn count(self) -> u32 {
+        self.0.count_ones()
+    }
+
+    /// The ports, rising.
+    pub fn ports(self) -> impl Iterator<Item = u8> {
+        (0..16).filter(move |port| self.contains(*port))
+    }
+}
+
+/// A result by its parts: the low four bytes, mV and mA.
+struct Parts([u8; 4], PowerCapability);
+
+fn parts(result: u64) -> Parts {
+    let [outcome, a, b, c, v0, v1, a0, a1] = result.to_le_bytes();
+    let capability = PowerCapability {
+        voltage_mv: u16::from_le_bytes([v0, v1]),
+        current_ma: u16::from_le_bytes([a0, a1]),
+    };
+    Parts([outcome, a, b, c], capability)
+}
+
+/// The error that a result is that is not the wanted one.
+fn error(result: u64) -> Error {
+    match parts(result).0 {
+        [0, number, ..] => {
+            Refusal::from_number(number).map_or(Error::Unknown(result), Error::Refused)
+        }
+        _ => Error::Unknown(result),
+    }
+}
+
+fn order([kind, device, flags]: [u8; 3], power: PowerCapability) -> Option<Order> {
+    let consumer = ConsumerPowerCapability::from_fields(power, flags);
+    Some(match kind {
+        0 => Order::Disconnect { port: device },
+        1 => Order::ConnectConsumer {
+            port: device,
+            capability: consumer,
+        },
+        2 => Order::ConnectProvider {
+            port: device,
+            capability: ProviderPowerCapability::from_fields(power, flags),
+        },
+        3 => Order::IsReady { charger: device },
+        4 => Order::InitCharger { charger: device },
+        5 => Order::Attach {
+            charger: device,
+            capability: consumer,
+        },
+        6 => Order::Detach { charger: device },
+        7 => Order::Wait,
+        _ => return None,
+    })
+}
+
+fn outcome([answer, expected, actual]: [u8; 3]) -> Option<Outcome> {
+    match (answer, expected) {
+        (0, _) => Some(Outcome::Done),
+        (_, 0) => PsuError::from_number(answer).map(Outcome::Failed),
+        _ => StateKind::from_number(actual).map(|actual| Outcome::WrongState {
+            expected: StateSet(expected),
+            actual,
+        }),
+    }
+}
+
+pub(crate) fn reply(result: u64) -> Result<Reply, Error> {
+    let Parts([kind, a, b, c], power) = parts(result);
+    let reply = match kind {
+        1 => order([a, b, c], power).map(Reply::Order),
+        2 => outcome([a, b, c]).map(Reply::Closed),
+        _ => None,
+    };
+    reply.ok_or_else(|| error(result))
+}
+
+pub(crate) fn written(result: u64) -> Result<usize, Error> {
+    match parts(result).0 {
+        [3, length, ..] => Ok(length.into()),
+        _ => Err(error(result)),
+    }
+}
+
+pub(crate) fn done(result: u64) -> Result<(), Error> {
+    match parts(result).0 {
+        [4, ..] => Ok(()),
+        _ => Err(error(result)),
+    }
+}
+
+pub(crate) fn shown(result: u64) -> Result<Shown, Error> {
+    let [kind, state, unconstrained, available] = parts(result).0;
+    let figures = Figures {
+        number: (result >> 32) as u32,
+        unconstrained: unconstrained == 1,
+        available,
+    };
+    match (kind, state) {
+        (5, 0) => Ok(Shown::Lost),
+        (5, 1) => Ok(Shown::Level(figures)),
+        (5, 2) => Ok(Shown::Waiting(figures)),
+        _ => Err(error(result)),
+    }
+}
+
+pub(crate) fn consumer(result: u64) -> Result<Option<Consumer>, Error> {
+    let Parts([kind, present, port, flags], power) = parts(result);
+    match (kind, present) {
+        (6, 0) => Ok(None),
+        (6, 1) => Ok(Some(Consumer {
+            port,
+            capability: ConsumerPowerCapability::from_fields(power, flags),
+        })),
+        _ => Err(error(result)),
+    }
+}
+
+pub(crate) fn tracked(result: u64) -> Result<Tracked, Error> {
+    match parts(result).0 {
+        [7, _, low, high] => Ok(Tracked(u16::from_le_bytes([low, high]))),
+        _ => Err(error(result)),
+    }
+}
+
+#[cfg(test)]
+mod tests {
+    use super::*;
+
+    #[test]
+    fn refusals_by_number() {
+        for (number, refusal) in (20..).zip(Refusal::ALL) {
+            assert_eq!(refusal.number(), number);
+            let result = u64::from(number) << 8;
+            let refused = Error::Refused(refusal);
+            assert_eq!(reply(result), Err(refused));
+            assert_eq!(written(result), Err(refused));
+            assert_eq!(done(result), Err(refused));
+            assert_eq!(shown(result), Err(refused));
+            assert_eq!(consumer(result), Err(refused));
+            assert_eq!(tracked(result), Err(refused));
+        }
+        for result in [0, 19 << 8, 34 << 8, 8, 255] {
+            assert_eq!(reply(result), Err(Error::Unknown(result)));
+            assert_eq!(done(result), Err(Error::Unknown(result)));
+        }
+    }
+
+    #[test]
+    fn orders_and_closes() {
+        let power = PowerCapability {
+            voltage_mv: 0x1234,
+            current_ma: 0x5678,
+        };
+        let result = 0x5678_1234_0D0F_0101;
+        let capability = ConsumerPowerCapability::from_fields(power, 13);
+        assert_eq!(capability.encode(), [0x34, 0x12, 0x78, 0x56, 13]);
+        assert_eq!(
+            reply(result),
+            Ok(Reply::Order(Order::ConnectConsumer {
+                port: 15,
+                capability
+            }))
+        );
+        assert_eq!(reply(0x0701), Ok(Reply::Order(Order::Wait)));
+        assert_eq!(reply(0x0801), Err(Error::Unknown(0x0801)));
+        assert_eq!(reply(0x02), Ok(Reply::Closed(Outcome::Done)));
+        assert_eq!(
+            reply(0x0402),
+            Ok(Reply::Closed(Outcome::Failed(PsuError::InvalidState)))
+        );
+        let wrong = Outcome::WrongState {
+            expected: StateSet(10),
+            actual: StateKind::ConnectedProvider,
+        };
+        assert_eq!(reply(0x020A_0402), Ok(Reply::Closed(wrong)));
+        assert!(StateSet(10).contains(StateKind::Idle));
+        assert!(!StateSet(10).contains(StateKind::Detached));
+        assert_eq!(reply(0x0B02), Err(Error::Unknown(0x0B02)));
+    }
+
+    #[test]
+    fn what_is_shown() {
+        assert_eq!(shown(0x05), Ok(Shown::Lost));
+        let figures = Figures {
+            number: 0x89AB_CDEF,
+            unconstrained: true,
+            available: 16,
+        };
+        assert_eq!(shown(0x89AB_CDEF_1001_0105), Ok(Shown::Level(figures)));
+        assert_eq!(shown(0x89AB_CDEF_1001_0205), Ok(Shown::Waiting(figures)));
+        assert_eq!(shown(0x0305), Err(Error::Unknown(0x0305)));
+        assert_eq!(consumer(0x06), Ok(None));
+        assert_eq!(tracked(0x8001_0207), Ok(Tracked(0x8001)));
+        let mut ports = Tracked(0x8001).ports();
+        assert_eq!(
+            (ports.next(), ports.next(), ports.next()),
+            (Some(0), Some(15), None)
+        );
+        assert!(!Tracked(0xFFFF).contains(16) && !Tracked(0xFFFF).contains(255));
+    }
+}

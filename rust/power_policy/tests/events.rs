@@ -1,0 +1,288 @@
+//! Events run over devices that fail, wait and change by themselves.
+
+use std::{
+    future::{Future, poll_fn},
+    pin::pin,
+    task::{Context, Poll, Waker},
+};
+
+use power_policy::*;
+
+fn now<F: Future>(future: F) -> F::Output {
+    let mut future = pin!(future);
+    loop {
+        if let Poll::Ready(output) = future
+            .as_mut()
+            .poll(&mut Context::from_waker(Waker::noop()))
+        {
+            return output;
+        }
+    }
+}
+
+/// Devices that note their orders, and answer each after one turn.
+#[derive(Default)]
+struct Bench {
+    psus: Vec<Psu>,
+    chargers: Vec<Charger>,
+    orders: Vec<String>,
+    /// The order, counted from 1, that fails.
+    fails: usize,
+}
+
+impl Bench {
+    async fn order(&mut self, what: String) -> bool {
+        self.orders.push(what);
+        let mut turned = false;
+        poll_fn(|context| {
+            if turned {
+                return Poll::Ready(());
+            }
+            turned = true;
+            context.waker().wake_by_ref();
+            Poll::Pending
+        })
+        .await;
+        self.orders.len() != self.fails
+    }
+
+    async fn psu(&mut self, what: String) -> Result<(), PsuError> {
+        if self.order(what).await {
+            Ok(())
+        } else {
+            Err(PsuError::Timeout)
+        }
+    }
+
+    async fn charger(&mut self, what: String) -> Result<(), ChargerError> {
+        if self.order(what).await {
+            Ok(())
+        } else {
+            Err(ChargerError)
+        }
+    }
+}
+
+impl Devices for Bench {
+    async fn disconnect(&mut self, port: u8) -> Result<(), PsuError> {
+        self.psu(format!("disconnect {port}")).await
+    }
+
+    async fn connect_consumer(
+        &mut self,
+        port: u8,
+        capability: ConsumerPowerCapability,
+    ) -> Result<(), PsuError> {
+        self.psus[usize::from(port)].psu_state = PsuState::ConnectedConsumer(capability);
+        self.psu(format!("consumer {port} {:?}", capability.encode()))
+            .await
+    }
+
+    async fn connect_provider(
+        &mut self,
+        port: u8,
+        capability: ProviderPowerCapability,
+    ) -> Result<(), PsuError> {
+        self.psu(format!("provider {port} {:?}", capability.encode()))
+            .await
+    }
+
+    async fn is_ready(&mut self, charger: u8) -> Result<(), ChargerError> {
+        self.charger(format!("is_ready {charger}")).await
+    }
+
+    async fn init_charger(&mut self, charger: u8) -> Result<(), ChargerError> {
+        self.charger(format!("init {charger}")).await
+    }
+
+    async fn attach_handler(
+        &mut self,
+        charger: u8,
+        capability: ConsumerPowerCapability,
+    ) -> Result<(), ChargerError> {
+        self.charger(format!("attach {charger} {:?}", capability.encode()))
+            .await
+    }
+
+    async fn detach_handler(&mut self, charger: u8) -> Result<(), ChargerError> {
+        self.charger(format!("detach {charger}")).await
+    }
+
+    async fn wait(&mut self, millis: u64) {
+        self.order(format!("wait {millis}")).await;
+    }
+
+    fn records(&self, records: &mut Records) {
+        for (port, psu) in (0..).zip(&self.psus) {
+            records.set_psu(port, psu);
+        }
+        for (number, charger) in (0..).zip(&self.chargers) {
+            records.set_charger(number, charger);
+        }
+    }
+}
+
+fn consumer(voltage_mv: u16, current_ma: u16) -> ConsumerPowerCapability {
+    ConsumerPowerCapability {
+        capability: PowerCapability {
+            voltage_mv,
+            current_ma,
+        },
+        flags: ConsumerFlags {
+            unconstrained_power: false,
+            psu_type: Some(PsuType::Custom3),
+        },
+    }
+}
+
+fn bench() -> (Service, Bench) {
+    let mut bench = Bench::default();
+    let offering = Psu {
+        psu_state: PsuState::Idle,
+        consumer_capability: Some(consumer(5000, 3000)),
+        requested_provider_capability: None,
+    };
+    let requesting = Psu {
+        psu_state: PsuState::Idle,
+        requested_provider_capability: Some(ProviderPowerCapability {
+            capability: PowerCapability {
+                voltage_mv: 15000,
+                current_ma: 1000,
+            },
+            flags: ProviderFlags::default(),
+        }),
+        ..Psu::default()
+    };
+    bench.psus = vec![offering, requesting, Psu::default()];
+    bench.chargers = vec![Charger::default()];
+    (Service::start(3, 1, &Config::default()).unwrap(), bench)
+}
+
+const UPDATED: Event = Event::UpdatedConsumerCapability { port: 0 };
+
+#[test]
+fn an_update() {
+    let (mut service, mut bench) = bench();
+    assert_eq!(
+        now(run_event(&mut service, &mut bench, UPDATED)),
+        Ok(Outcome::Done)
+    );
+    let orders = [
+        "consumer 0 [136, 19, 184, 11, 12]",
+        "wait 800",
+        "is_ready 0",
+        "init 0",
+        "attach 0 [136, 19, 184, 11, 12]",
+    ];
+    assert_eq!(bench.orders, orders);
+}
+
+#[test]
+fn each_order_fails() {
+    for (fails, error) in [
+        (1, PsuError::Timeout),
+        (3, PsuError::Charger),
+        (4, PsuError::Charger),
+        (5, PsuError::Charger),
+    ] {
+        let (mut service, mut bench) = bench();
+        bench.fails = fails;
+        let outcome = now(run_event(&mut service, &mut bench, UPDATED));
+        assert_eq!(outcome, Ok(Outcome::Failed(error)));
+        assert_eq!(bench.orders.len(), fails);
+        assert_eq!(service.order(), Ok(Reply::Closed(Outcome::Failed(error))));
+    }
+}
+
+#[test]
+fn a_request_and_a_wrong_state() {
+    let (mut service, mut bench) = bench();
+    let request = Event::RequestedProviderCapability { port: 1 };
+    assert_eq!(
+        now(run_event(&mut service, &mut bench, request)),
+        Ok(Outcome::Done)
+    );
+    assert_eq!(bench.orders, ["provider 1 [136, 19, 184, 11, 0]"]);
+    bench.psus[1].psu_state = PsuState::Detached;
+    let wrong = Outcome::WrongState {
+        expected: StateSet(6),
+        actual: StateKind::Detached,
+    };
+    assert_eq!(now(run_event(&mut service, &mut bench, request)), Ok(wrong));
+}
+
+#[test]
+fn refused() {
+    assert_eq!(
+        Service::start(17, 0, &Config::default()),
+        Err(Error::Refused(Refusal::Configuration))
+    );
+    let (mut service, mut bench) = bench();
+    let outcome = now(run_event(
+        &mut service,
+        &mut bench,
+        Event::Attached { port: 3 },
+    ));
+    assert_eq!(outcome, Err(Error::Refused(Refusal::Device)));
+    assert!(bench.orders.is_empty());
+    let mut buffer = [0; BUFFER];
+    assert_eq!(
+        service.write_packet(&mut buffer),
+        Err(Error::Refused(Refusal::NoEvent))
+    );
+
+    // Dropped at its first order, the event stays open there.
+    {
+        let mut event = pin!(run_event(&mut service, &mut bench, UPDATED));
+        let polled = event.as_mut().poll(&mut Context::from_waker(Waker::noop()));
+        assert!(polled.is_pending());
+    }
+    let order = Order::ConnectConsumer {
+        port: 0,
+        capability: consumer(5000, 3000),
+    };
+    assert_eq!(service.order(), Ok(Reply::Order(order)));
+    let outcome = now(run_event(&mut service, &mut bench, UPDATED));
+    assert_eq!(outcome, Err(Error::Refused(Refusal::Open)));
+    assert_eq!(
+        service.write_picture(&mut buffer),
+        Err(Error::Refused(Refusal::Open))
+    );
+
+    let mut none = Service::from_image([0; SERVICE_IMAGE]);
+    let outcome = now(run_event(&mut none, &mut bench, UPDATED));
+    assert_eq!(outcome, Err(Error::Refused(Refusal::Image)));
+    let mut follower = Follower::start().unwrap();
+    assert_eq!(follower.take(&[]), Err(Error::Refused(Refusal::CutShort)));
+    assert_eq!(follower.shown(), Ok(Shown::Lost));
+}
+
+#[test]
+fn records() {
+    let mut records = Records::new(255, 255);
+    assert_eq!(
+        (records.psus().len(), records.chargers().len()),
+        (16 * 18, 8 * 7)
+    );
+    records = Records::new(2, 0);
+    let psu = Psu {
+        psu_state: PsuState::ConnectedProvider(ProviderPowerCapability {
+            capability: PowerCapability {
+                voltage_mv: 1,
+                current_ma: 2,
+            },
+            flags: ProviderFlags {
+                psu_type: Some(PsuType::DcJack),
+            },
+        }),
+        consumer_capability: Some(consumer(3, 4)),
+        requested_provider_capability: None,
+    };
+    records.set_psu(1, &psu);
+    records.set_psu(2, &psu);
+    records.set_charger(0, &Charger::default());
+    assert_eq!(records.psus()[..18], [0; 18]);
+    let bytes = [2, 1, 0, 2, 0, 4, 1, 3, 0, 4, 0, 12, 0, 0, 0, 0, 0, 0];
+    assert_eq!(records.psus()[18..], bytes);
+    assert!(records.chargers().is_empty());
+}
