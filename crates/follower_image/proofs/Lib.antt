@@ -3,5 +3,4 @@ pub mod Slots
 pub mod Rows
 pub mod Readers
 pub mod OneImage
-pub mod Tracked
 pub mod Takes

@@ -36,7 +36,7 @@ use Rattle.follower_image.specs.Fits.{imageFits}
 use Rattle.follower_image.proofs.Notices.{and-left, and-right}
 use Rattle.follower_image.proofs.Slots.{parts}
 use Rattle.follower_image.proofs.OneImage.{Fit, fit-tested, tested-fit, Fits, fits, fitted, picture-parts, picture-whole}
-use Rattle.follower_image.proofs.Tracked.{Tracks, insert-tracks, remove-tracks}
+use Rattle.display.proofs.Tracked.{Tracks, insert-tracks, remove-tracks}
 
 -- a display within what a picture has
 record Shows (d : Display) : Type 0 where

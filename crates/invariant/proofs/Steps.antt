@@ -49,7 +49,7 @@ use Rattle.wire.specs.WellFormed as wire
 use Rattle.wire.proofs.ReadWrite.{and-left, and-right}
 use Rattle.run.specs.Sized.{RequestFits, RecordsFit}
 use Rattle.run.proofs.Sized.{both, best-fits, psu-fits, available-le, grant-fits}
-use Rattle.run.proofs.Tracked.{Tracks, insert-tracks, remove-tracks}
+use Rattle.display.proofs.Tracked.{Tracks, insert-tracks, remove-tracks}
 use Rattle.service_image.specs.Typed.{ConsumerTyped}
 use Rattle.service_image.specs.WellFormed.{resultFits, consumerFits, phaseFits, ordersMost, notDisconnected, notConnected, notUpdated, nothingTold}
 use Rattle.invariant.proofs.Good.{StateGood, NoticesGood, MemoryGood, At, Limits}

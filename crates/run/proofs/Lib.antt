@@ -1,4 +1,3 @@
-pub mod Tracked
 pub mod Sized
 pub mod Matches
 pub mod Writer

@@ -43,7 +43,7 @@ use Rattle.wire.proofs.ReadWrite.{and-left, and-right}
 use Rattle.interaction.specs.Action.{Held, Interaction, done, ask, Action, _>>=_, _>>_, skip, records, set, notify, await, ok, chargerOk, charger, psu, when, unless, each}
 use Rattle.interaction.specs.Interaction.{updateUnconstrainedState, attachCharger, postConsumerConnected, detachCharger, disconnectChargers, disconnectCurrent, connectConsumer, connectNewConsumer, connectBest, findBestConsumer, updateCurrentConsumer, postProviderConnected, provide, connectProvider, removeProvider, postProviderRemoved, processPsuEvent, close, event}
 use Rattle.run.specs.Sized.{OfferFits, RequestFits, PsuFits, RecordsFit, ConfigFits}
-use Rattle.run.proofs.Tracked.{Tracks, insert-tracks, remove-tracks}
+use Rattle.display.proofs.Tracked.{Tracks, insert-tracks, remove-tracks}
 
 -- what is held and told
 

@@ -1,22 +1,19 @@
 -- The tracked set stays one of 16 ports with at most four in it: a port that is added sets one bit more, and one that is removed clears a bit.
--- Assumes nothing.
 use mathlib.Core.Path.{_≡_, refl, ap, _∙_}
 use mathlib.Core.Bool.{Bool, true, false, cond, _&&_}
 use Prim.Native.Nat.{ℕ, zero, suc, _+_, _-_, _*_, _/_, _%_, _^_, _<_, _≤_, max}
-use native.Mathlib.Nat.{mod-lt, max-le, pow-suc, div-eq-of-lt}
+use native.Mathlib.Nat.{max-le, pow-suc, div-eq-of-lt}
 use native.Mathlib.Omega.{arith}
 use lib.Bits.{bitOr, bitXor, differ, or-step, xor-step, or-shr, xor-shr, or-lt, xor-lt}
-use lib.Dec.{eqb, ltb, lit<}
+use lib.Dec.{eqb, ltb}
 use lib.Pow.{pow-lt, pow-add, shl-shr}
 use borrow.Author.Tests.{eqb-true, eqb-false, ltb-true, ltb-false}
 use Rattle.display.specs.Providers.{bitAt, contains, ones, len, insertOf, removeOf}
 use Rattle.display.specs.declared.providers.Insert.{Insert}
 use Rattle.display.specs.declared.providers.Inserted.{Inserted}
 use Rattle.display.specs.declared.providers.Providers.{Providers}
 use Rattle.display.specs.declared.providers.Removed.{Removed}
-
-bit-le : (m p : ℕ) → bitAt m p ≤ 1
-bit-le m p = omega (arith, mod-lt (m / 2 ^ p) {m = 2} (lit< tt))
+use Rattle.display.proofs.Count.{bit-le}
 
 -- bit by bit
 
