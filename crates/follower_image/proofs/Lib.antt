@@ -4,3 +4,4 @@ pub mod Rows
 pub mod Readers
 pub mod OneImage
 pub mod Takes
+pub mod ShownBy

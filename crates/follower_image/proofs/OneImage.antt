@@ -192,7 +192,7 @@ display-pictured n d l e w =
 
 -- what is held when n is shown
 
-held-told : (n : ℕ) (h : Held) → Within (n + 2) (n + 8) h → ((i : ℕ) → i < 8 → heldFits i (packetAt h i) ≡ true)
+pub held-told : (n : ℕ) (h : Held) → Within (n + 2) (n + 8) h → ((i : ℕ) → i < 8 → heldFits i (packetAt h i) ≡ true)
     → (j : ℕ) → n + 2 ≤ j → j < n + 2 + 7 → Told j (heldFor h j)
 held-told n h w f j a b = by (w .1 (j % 8) (mod8 j))
   where
@@ -203,7 +203,7 @@ held-told n h w f j a b = by (w .1 (j % 8) (mod8 j))
         let m : heldFor h j .number ≡ j = omega (arith, q .0, q .1, q .3, a, b) in
         record { told = ⊎-elim (λ e. inl e) (λ e. inr (m, e)) (g .fit) }
 
-held-next : (n : ℕ) (h : Held) → Within (n + 2) (n + 8) h → packetAt h ((n + 1) % 8) ≡ held.none
+pub held-next : (n : ℕ) (h : Held) → Within (n + 2) (n + 8) h → packetAt h ((n + 1) % 8) ≡ held.none
 held-next n h w = by (w .1 ((n + 1) % 8) (mod8 (n + 1)))
   where
     by : InPlace (n + 2) (n + 8) ((n + 1) % 8) (packetAt h ((n + 1) % 8)) → packetAt h ((n + 1) % 8) ≡ held.none
@@ -239,20 +239,22 @@ follower-bytes f e = bytes-at (f .shown) (f .held) (fits f e) .bytes
 
 -- reading what was written
 
-lost-back : (floor : ℕ) → followerIn (lostBytes floor) ≡ some (lost floor)
+pub lost-back : (floor : ℕ) → followerIn (lostBytes floor) ≡ some (lost floor)
 unfolding zeros
 lost-back floor = ap (λ (n : ℕ). some (lost n)) (number-back floor)
+
+pub held-back : (s : Picture) (h : Held) → Fits (Shown.Picture s) h → heldFrom (s .number) (heldBytes (s .number) h) ≡ some h
+held-back s h f =
+    row-back (s .number + 2) 7 h nothing (held-told (s .number) h (f .formed .1) (f .places))
+    ∙ ap some (row-restored (s .number) h (f .formed .1 .0) (held-next (s .number) h (f .formed .1)))
 
 showing-back : (s : Picture) (h : Held) → Fits (Shown.Picture s) h → showingIn (showingBytes s h) ≡ some (showing s h)
 showing-back s h f =
     let n = s .number in
     let p = picture-parts s (f .shown) in
-    let r : heldFrom n (heldBytes n h) ≡ some h =
-    row-back (n + 2) 7 h nothing (held-told n h (f .formed .1) (f .places))
-    ∙ ap some (row-restored n h (f .formed .1 .0) (held-next n h (f .formed .1))) in
     let x : showingOf (numberFrom (numberQuad n)) (displayFrom (displayShown (s .display))) (heldFrom (numberFrom (numberQuad n)) (heldBytes n h))
     ≡ showingOf n (ReadDisplay.Read (s .display)) (some h) =
-    rw (number-back n, display-back (s .display), r) in
+    rw (number-back n, display-back (s .display), held-back s h f) in
     x ∙ rw (display-tested n (s .display) p)
 
 back-at : (x : Shown) (h : Held) → Fits x h → followerIn (bytesAt x h) ≡ some (record { shown = x; held = h })

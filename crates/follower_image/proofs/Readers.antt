@@ -1,72 +1,78 @@
 -- For the readers: bytes that are to be zeros, of which what is left decides, and what was read of the slots.
 -- Assumes nothing.
 use mathlib.Core.Path.{_≡_, refl, ap, sym, _∙_}
-use mathlib.Core.Bool.{true, false, cond}
-use mathlib.Core.List.{List, []}
+use mathlib.Core.Bool.{Bool, true, false, cond, _&&_}
+use mathlib.Core.List.{List}
 use mathlib.Core.Option.{Option, none, some}
-use Prim.Native.Nat.{ℕ, _+_, _≤_, _<_}
+use Prim.Native.Nat.{ℕ, suc, _+_, _≤_, _<_}
 use native.Mathlib.Numerals.{add-one}
 use lib.ListN.{length, getD, drop, drop-of-length-le}
 use lib.Seq.{drop-cons}
-use borrow.Author.Tests.{eq-eqb, ne-eqb}
+use lib.Dec.{eqb}
 use Rattle.display.specs.declared.Display.{Display}
-use Rattle.follower.specs.Follower.{showing, at}
+use Rattle.follower.specs.Follower.{at}
 use Rattle.follower.specs.declared.held.Held.{Held}
 use Rattle.follower_image.specs.Slot.{zeros}
 use Rattle.image.specs.Quad.{quadAt, numberFrom}
 use Rattle.image.specs.Shown.{shownAt, displayFrom}
 use Rattle.image.specs.declared.shown.ReadDisplay.{ReadDisplay}
-use Rattle.follower_image.specs.Held.{heldFrom, heldRead}
-use Rattle.follower_image.specs.Image.{displayFits, showingWith, showingOf, showingIn, followerRead, followerFrom}
-use Rattle.follower_image.specs.declared.ReadFollower.{ReadFollower}
-use Rattle.follower_image.specs.declared.held.ReadHeld.{ReadHeld}
+use Rattle.follower_image.specs.Held.{heldFrom, isHeld}
+use Rattle.follower_image.specs.Image.{displayFits, showingWith, showingOf, showingIn, shownRead}
+use Rattle.follower_image.specs.declared.ReadShown.{ReadShown}
 
-module _ (s : List ℕ) (i : ℕ) where
-  pub zeros-next : i < length s → getD s i 0 ≡ 0 → zeros s ≡ zeros (drop i s) → zeros s ≡ zeros (drop (i + 1) s)
+-- z says whether the bytes passed are zeros
+
+and-assoc : (x y z : Bool) → (x && (y && z)) ≡ ((x && y) && z)
+and-assoc true y z = refl
+and-assoc false y z = refl
+
+pub and-false : (z : Bool) → (z && false) ≡ false
+and-false true = refl
+and-false false = refl
+
+pub and-true : (z : Bool) → (z && true) ≡ z
+and-true true = refl
+and-true false = refl
+
+module _ (s : List ℕ) (i : ℕ) (z : Bool) (q : zeros s ≡ (z && zeros (drop i s))) where
+  pub zeros-next : i < length s → zeros s ≡ ((z && eqb (getD s i 0) 0) && zeros (drop (i + 1) s))
   unfolding zeros
-  zeros-next l e q = q ∙ rw (drop-cons s i 0 l, eq-eqb (getD s i 0) 0 e, add-one i)
+  zeros-next l = q ∙ rw (drop-cons s i 0 l, add-one i) (and-assoc z (eqb (getD s i 0) 0) (zeros (drop (suc i) s)))
 
-  pub zeros-stop : i < length s → (getD s i 0 ≡ 0 → ⊥) → zeros s ≡ zeros (drop i s) → zeros s ≡ false
+  pub zeros-end : length s ≤ i → zeros s ≡ z
   unfolding zeros
-  zeros-stop l e q = q ∙ rw (drop-cons s i 0 l, ne-eqb (getD s i 0) 0 e)
+  zeros-end l =
+      let r : zeros (drop i s) ≡ true = rw (drop-of-length-le s l) in
+      q ∙ (ap (λ (b : Bool). z && b) r ∙ and-true z)
 
-  pub zeros-end : length s ≤ i → zeros s ≡ zeros (drop i s) → zeros s ≡ true
-  unfolding zeros
-  zeros-end l q = q ∙ rw (drop-of-length-le s l)
-
--- showing, by what is read of the display and of the slots
+-- showing, by what is read of the display and whether the slots are slots
 
 module _ (s : List ℕ) where
-  abbrev shownBy : ReadDisplay → ReadFollower
-  shownBy r = followerRead (showingOf (numberFrom (quadAt s 2)) r (heldFrom (numberFrom (quadAt s 2)) (drop 17 s)))
+  abbrev pictureBy : ReadDisplay → ReadShown
+  pictureBy r = shownRead (showingOf (numberFrom (quadAt s 2)) r (heldFrom (numberFrom (quadAt s 2)) (drop 17 s)))
 
-  pub display-refused : displayFrom (shownAt s 6) ≡ ReadDisplay.Refused → followerFrom [] ≡ followerRead (showingIn s)
-  display-refused e = sym (ap shownBy e)
+  pub picture-refused : displayFrom (shownAt s 6) ≡ ReadDisplay.Refused → ReadShown.Refused ≡ shownRead (showingIn s)
+  picture-refused e = sym (ap pictureBy e)
 
-  pub display-unfit : (d : Display) → displayFrom (shownAt s 6) ≡ ReadDisplay.Read d → displayFits d ≡ false
-      → followerFrom [] ≡ followerRead (showingIn s)
-  display-unfit d e f =
-      let q : shownBy (ReadDisplay.Read d) ≡ followerFrom [] = rw f in
-      sym (ap shownBy e ∙ q)
+  pub picture-unfit : (d : Display) → displayFrom (shownAt s 6) ≡ ReadDisplay.Read d → displayFits d ≡ false → ReadShown.Refused ≡ shownRead (showingIn s)
+  picture-unfit d e f =
+      let q : pictureBy (ReadDisplay.Read d) ≡ ReadShown.Refused = rw f in
+      sym (ap pictureBy e ∙ q)
 
-  held-by : (n : ℕ) (d : Display) (o : Option Held)
-      → cond (heldRead o .ok) (record { ok = true; follower = showing (at n d) (heldRead o .held) }) (followerFrom [])
-      ≡ followerRead (showingWith (at n d) o)
-  held-by n d none = refl
-  held-by n d (some h) = refl
+  picture-with : (n : ℕ) (d : Display) (o : Option Held) → cond (isHeld o) (ReadShown.Picture (at n d)) ReadShown.Refused ≡ shownRead (showingWith (at n d) o)
+  picture-with n d none = refl
+  picture-with n d (some h) = refl
 
-  pub slots-given : (n : ℕ) (d : Display) (h : ReadHeld) → displayFrom (shownAt s 6) ≡ ReadDisplay.Read d → displayFits d ≡ true
-      → n ≡ numberFrom (quadAt s 2) → h ≡ heldRead (heldFrom n (drop 17 s))
-      → cond (h .ok) (record { ok = true; follower = showing (at n d) (h .held) }) (followerFrom []) ≡ followerRead (showingIn s)
-  slots-given n d h e f m q =
-      let x : cond (h .ok) (record { ok = true; follower = showing (at n d) (h .held) }) (followerFrom [])
-      ≡ followerRead (showingWith (at n d) (heldFrom n (drop 17 s))) =
-      ap (λ (g : ReadHeld). cond (g .ok) (record { ok = true; follower = showing (at n d) (g .held) }) (followerFrom [])) q
-      ∙ held-by n d (heldFrom n (drop 17 s)) in
-      let y : followerRead (showingWith (at n d) (heldFrom n (drop 17 s)))
-      ≡ followerRead (showingWith (at (numberFrom (quadAt s 2)) d) (heldFrom (numberFrom (quadAt s 2)) (drop 17 s))) =
-      ap (λ (k : ℕ). followerRead (showingWith (at k d) (heldFrom k (drop 17 s)))) m in
-      let z : shownBy (ReadDisplay.Read d)
-      ≡ followerRead (showingWith (at (numberFrom (quadAt s 2)) d) (heldFrom (numberFrom (quadAt s 2)) (drop 17 s))) =
+  pub picture-given : (n : ℕ) (d : Display) (t : Bool) → displayFrom (shownAt s 6) ≡ ReadDisplay.Read d → displayFits d ≡ true
+      → n ≡ numberFrom (quadAt s 2) → isHeld (heldFrom n (drop 17 s)) ≡ t
+      → cond t (ReadShown.Picture (at n d)) ReadShown.Refused ≡ shownRead (showingIn s)
+  picture-given n d t e f m q =
+      let x : cond t (ReadShown.Picture (at n d)) ReadShown.Refused ≡ shownRead (showingWith (at n d) (heldFrom n (drop 17 s))) =
+      ap (λ (b : Bool). cond b (ReadShown.Picture (at n d)) ReadShown.Refused) (sym q) ∙ picture-with n d (heldFrom n (drop 17 s)) in
+      let y : shownRead (showingWith (at n d) (heldFrom n (drop 17 s)))
+      ≡ shownRead (showingWith (at (numberFrom (quadAt s 2)) d) (heldFrom (numberFrom (quadAt s 2)) (drop 17 s))) =
+      ap (λ (k : ℕ). shownRead (showingWith (at k d) (heldFrom k (drop 17 s)))) m in
+      let z : pictureBy (ReadDisplay.Read d)
+      ≡ shownRead (showingWith (at (numberFrom (quadAt s 2)) d) (heldFrom (numberFrom (quadAt s 2)) (drop 17 s))) =
       rw f in
-      x ∙ (y ∙ sym (ap shownBy e ∙ z))
+      x ∙ (y ∙ sym (ap pictureBy e ∙ z))

@@ -20,8 +20,8 @@ use Rattle.follower.specs.declared.held.Held.{Held}
 use Rattle.follower.proofs.Kept.{mod8, none-at}
 use Rattle.image.proofs.Places as places
 use Rattle.image.proofs.Places.{Below}
-use Rattle.follower_image.specs.Slot.{slotBytes, slotFrom}
-use Rattle.follower_image.specs.Held.{slots, slotThen, slotsFrom}
+use Rattle.follower_image.specs.Slot.{slotBytes, slotFrom, isRead}
+use Rattle.follower_image.specs.Held.{slots, slotThen, slotsFrom, isHeld}
 use Rattle.follower_image.specs.declared.slot.ReadSlot.{ReadSlot}
 use Rattle.follower_image.proofs.Slots.{Told, slot-length, slot-back, slot-read, slot-below}
 
@@ -219,6 +219,26 @@ module _ (m k : ℕ) (s : List ℕ) (h : Held) where
       let a : k - i ≡ 0 = omega (arith, l) in
       rw a
 
+-- whether the slots are slots does not rest on what they are put into
+
+free-then : (x : ReadSlot) (f g : EventPacket → Option Held) → ((p : EventPacket) → isHeld (f p) ≡ isHeld (g p)) → isHeld (slotThen x f) ≡ isHeld (slotThen x g)
+free-then ReadSlot.Refused f g e = refl
+free-then (ReadSlot.Read p) f g e = e p
+
+pub slots-free : (m k : ℕ) (s : List ℕ) (h g : Held) → isHeld (slotsFrom m k s h) ≡ isHeld (slotsFrom m k s g)
+slots-free m zero s h g = refl
+slots-free m (suc k) s h g =
+    free-then (slotFrom m (take 32 s)) (λ p. slotsFrom (suc m) k (drop 32 s) (put h (m % 8) p))
+    (λ p. slotsFrom (suc m) k (drop 32 s) (put g (m % 8) p)) (λ p. slots-free (suc m) k (drop 32 s) (put h (m % 8) p) (put g (m % 8) p))
+
+pub slot-is-read : (x : ReadSlot) → isRead x ≡ true → (p : EventPacket) × (x ≡ ReadSlot.Read p)
+slot-is-read ReadSlot.Refused e = absurd (let z : _≡_ {A = ℕ} 0 1 = cc in omega arith)
+slot-is-read (ReadSlot.Read p) e = (p, refl)
+
+pub slot-is-refused : (x : ReadSlot) → isRead x ≡ false → x ≡ ReadSlot.Refused
+slot-is-refused ReadSlot.Refused e = refl
+slot-is-refused (ReadSlot.Read p) e = absurd (let z : _≡_ {A = ℕ} 0 1 = cc in omega arith)
+
 -- the rest of the row, after i slots, is stored where they end
 
 pub start-put : (m k : ℕ) (h : Held) (o : List ℕ)
@@ -248,11 +268,3 @@ pub slots-put : (m k i : ℕ) (h : Held) (o : List ℕ) → k ≤ i → sets o (
 slots-put m k i h o l =
     let a : k - i ≡ 0 = omega (arith, l) in
     rw a
-
--- the head, the display and the slots, each stored where the part before it ends
-pub parts-put : (o a b c head shown row : List ℕ) → length head ≡ 6 → length shown ≡ 11 → a ≡ sets o 0 head → b ≡ sets a 6 shown
-    → c ≡ sets b 17 row → c ≡ sets o 0 ((head ++ shown) ++ row)
-parts-put o a b c head shown row m n x y z =
-    let f : b ≡ sets o 0 (head ++ shown) = y ∙ (ap (λ (l : List ℕ). sets l 6 shown) x ∙ places.sets-next head shown o 6 m) in
-    let e : length (head ++ shown) ≡ 17 = length-append head shown ∙ omega (arith, m, n) in
-    z ∙ (ap (λ (l : List ℕ). sets l 17 row) f ∙ places.sets-next (head ++ shown) row o 17 e)

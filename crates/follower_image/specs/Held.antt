@@ -1,6 +1,6 @@
 -- The row of seven slots: when n is shown, those of the events n + 2 to n + 8, each at its place.
 use Prim.Native.Nat.{ℕ, zero, suc, _+_, _%_}
-use mathlib.Core.Bool.{true, false}
+use mathlib.Core.Bool.{Bool, true, false}
 use mathlib.Core.List.{List, [], _∷_}
 use mathlib.Core.Option.{Option, none, some}
 use lib.ListN.{take, drop}
@@ -37,3 +37,7 @@ heldFrom n s = slotsFrom (n + 2) 7 s nothing
 abbrev pub heldRead : Option Held → ReadHeld
 heldRead none = record { ok = false; held = nothing }
 heldRead (some h) = record { ok = true; held = h }
+
+abbrev pub isHeld : Option Held → Bool
+isHeld none = false
+isHeld (some h) = true

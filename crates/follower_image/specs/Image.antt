@@ -3,6 +3,7 @@ use Prim.Native.Nat.{ℕ}
 use mathlib.Core.Bool.{Bool, true, false, cond, _&&_}
 use mathlib.Core.List.{List, [], _∷_, _++_}
 use mathlib.Core.Option.{Option, none, some}
+use mathlib.Core.Path.{_≡_}
 use lib.Dec.{eqb, leb}
 use lib.ListN.{length, getD, drop, replicate}
 use Rattle.display.specs.Providers.{len}
@@ -18,7 +19,9 @@ use Rattle.image.specs.Shown.{shownAt, displayBytes, displayFrom}
 use Rattle.image.specs.declared.shown.ReadDisplay.{ReadDisplay}
 use Rattle.follower_image.specs.Slot.{zeros}
 use Rattle.follower_image.specs.Held.{heldBytes, heldFrom}
+use Rattle.follower_image.specs.Fits.{imageFits}
 use Rattle.follower_image.specs.declared.ReadFollower.{ReadFollower}
+use Rattle.follower_image.specs.declared.ReadShown.{ReadShown}
 
 -- writing
 
@@ -74,3 +77,28 @@ followerRead (some f) = record { ok = true; follower = f }
 
 abbrev pub followerFrom : List ℕ → ReadFollower
 followerFrom b = followerRead (followerIn b)
+
+-- what an image shows, without what is held
+
+abbrev pub shownOf : Shown → ReadShown
+shownOf (Shown.Lost floor) = ReadShown.Lost floor
+shownOf (Shown.Picture s) = ReadShown.Picture s
+
+abbrev pub shownRead : Option Follower → ReadShown
+shownRead none = ReadShown.Refused
+shownRead (some f) = shownOf (f .shown)
+
+-- the image of a follower that shows s with h held
+pub record ImageOf (b : List ℕ) (s : Picture) (h : Held) : Type 0 where
+  pub bytes : b ≡ showingBytes s h
+  pub fits : imageFits (showing s h) ≡ true
+
+-- bytes that are read as this are its image
+abbrev pub ShownBy : List ℕ → ReadShown → Type 0
+ShownBy b ReadShown.Refused = Unit {0}
+ShownBy b (ReadShown.Lost floor) = b ≡ lostBytes floor
+ShownBy b (ReadShown.Picture s) = (h : Held) × ImageOf b s h
+
+-- the first 17 bytes, showing
+abbrev pub shownHead : ℕ → Display → List ℕ
+shownHead n d = 2 ∷ 1 ∷ (quadBytes (numberQuad n) ++ displayBytes d)

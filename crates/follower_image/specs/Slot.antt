@@ -1,7 +1,7 @@
 -- A slot of 32 bytes (docs/STATE.md): zeros, or 1, answer, orders, notice count and four notices. The event's number is the
 -- slot's, so no byte tells it.
 use Prim.Native.Nat.{ℕ}
-use mathlib.Core.Bool.{Bool, true, cond, _&&_}
+use mathlib.Core.Bool.{Bool, true, false, cond, _&&_}
 use mathlib.Core.List.{List, [], _∷_, _++_}
 use lib.Dec.{eqb, leb}
 use lib.ListN.{getD, replicate}
@@ -87,3 +87,7 @@ slotCases number s = cond (zeros s) (ReadSlot.Read none) ReadSlot.Refused ∷ pa
 -- the slot of an event; a first byte above 1 is refused
 abbrev pub slotFrom : ℕ → List ℕ → ReadSlot
 slotFrom number s = getD (slotCases number s) (getD s 0 0) ReadSlot.Refused
+
+abbrev pub isRead : ReadSlot → Bool
+isRead ReadSlot.Refused = false
+isRead (ReadSlot.Read p) = true

@@ -7,7 +7,7 @@ use image::place;
 ghost use mathlib.Core.Path.{_≡_};
 ghost use lib.ListN.{length};
 ghost use lib.Seq.{sets};
-ghost use Rattle.follower_image.specs.Held.{heldBytes, heldFrom, heldRead};
+ghost use Rattle.follower_image.specs.Held.{heldBytes, heldFrom, heldRead, isHeld};
 
 // What reading the row finds; not ok, nothing is held.
 pub struct ReadHeld {
@@ -59,4 +59,21 @@ pub(crate) fn write(out: &mut [u8], number: u32, held: Held)
         next += 32;
         i += 1;
     }
+}
+
+// Whether the 224 bytes are the slots of a follower that shows a number.
+pub(crate) fn fits(s: &[u8], number: u32) -> bool
+    requires { ⌜ length (now s) ≡ 224 ⌝ }
+    ensures { λ r. ⌜ r ≡ isHeld (heldFrom number (now (s .entry))) ⌝ }
+{
+    let mut event = (number as u64) + 2;
+    let mut i: usize = 0;
+    while i < 7 {
+        if !slot::fits(&s[i * 32..i * 32 + 32], event) {
+            return false;
+        }
+        event += 1;
+        i += 1;
+    }
+    true
 }

@@ -14,53 +14,27 @@ use image::place;
 use image::quad::Quad;
 use image::shown::ReadDisplay;
 ghost use mathlib.Core.Path.{_≡_};
-ghost use mathlib.Core.Bool.{true, cond};
-ghost use mathlib.Core.List.{[], _∷_};
+ghost use mathlib.Core.Bool.{cond};
+ghost use mathlib.Core.List.{_∷_};
+ghost use mathlib.Core.Option.{none};
 ghost use lib.Dec.{eqb};
-ghost use lib.ListN.{length};
+ghost use lib.ListN.{length, drop};
 ghost use lib.Seq.{sets};
 ghost use Rattle.image.specs.Quad.{quadBytes, numberQuad};
-ghost use Rattle.follower.specs.Follower.{lost, showing, at};
-ghost use Rattle.follower_image.specs.Image.{lostBytes, showingBytes, followerBytes, lostIn, portFits, displayFits, showingIn, followerRead, followerFrom};
+ghost use Rattle.follower_image.specs.Held.{heldFrom, heldRead};
+ghost use Rattle.follower_image.specs.Image.{lostBytes, showingBytes, followerBytes, lostIn, portFits, displayFits, showingIn, followerIn, shownRead, ShownBy, shownHead};
 
-// What reading an image finds; not ok, the follower is a fresh one.
+// What the definitions say of an image; not ok, the follower is a fresh one. The functions read what is shown and what is held by themselves.
 pub struct ReadFollower {
     pub ok: bool,
     pub follower: Follower,
 }
 
-// Not an image.
-fn refused() -> ReadFollower
-    ensures { λ r. ⌜ r ≡ followerFrom [] ⌝ }
-{
-    ReadFollower {
-        ok: false,
-        follower: Follower::new(),
-    }
-}
-
-// Lost with a floor.
-fn lost_with(floor: u32) -> ReadFollower
-    ensures { λ r. ⌜ r ≡ record { ok = true; follower = lost floor } ⌝ }
-{
-    ReadFollower {
-        ok: true,
-        follower: Follower {
-            shown: Shown::Lost(floor),
-            held: Held::new(),
-        },
-    }
-}
-
-// Lost: zeros stand after the floor.
-fn read_lost(image: &[u8]) -> ReadFollower
-    requires { ⌜ length (now image) ≡ 241 ⌝ }
-    ensures { λ r. ⌜ r ≡ followerRead (lostIn (now (image .entry))) ⌝ }
-{
-    if slot::is_zero(&image[6..]) {
-        return lost_with(Quad::at(image, 2).number());
-    }
-    refused()
+// What an image shows, without what is held.
+pub enum ReadShown {
+    Refused,
+    Lost(u32),
+    Picture(Picture),
 }
 
 // Whether a consumer's port is one of 16.
@@ -89,63 +63,74 @@ fn display_fits(d: Display) -> bool
     false
 }
 
-// Showing, with what was read of the slots.
-fn showing_with(number: u32, display: Display, h: ReadHeld) -> ReadFollower
-    ensures { λ r. ⌜ r ≡ cond (h .ok) (record { ok = true; follower = showing (at number display) (h .held) }) (followerFrom []) ⌝ }
+// Lost: zeros stand after the floor.
+fn shown_lost(image: &[u8]) -> ReadShown
+    requires { ⌜ length (now image) ≡ 241 ⌝ }
+    ensures { λ r. ⌜ r ≡ shownRead (lostIn (now (image .entry))) ⌝ }
 {
-    if h.ok {
-        let held = h.held;
-        return ReadFollower {
-            ok: true,
-            follower: Follower {
-                shown: Shown::Picture(Picture { number, display }),
-                held,
-            },
-        };
+    if slot::is_zero(&image[6..]) {
+        return ReadShown::Lost(Quad::at(image, 2).number());
     }
-    refused()
+    ReadShown::Refused
 }
 
-// Showing: the number, the display and the slots.
-fn read_showing(image: &[u8]) -> ReadFollower
+// Showing: the number and the display, where the slots are slots.
+fn shown_picture(image: &[u8]) -> ReadShown
     requires { ⌜ length (now image) ≡ 241 ⌝ }
-    ensures { λ r. ⌜ r ≡ followerRead (showingIn (now (image .entry))) ⌝ }
+    ensures { λ r. ⌜ r ≡ shownRead (showingIn (now (image .entry))) ⌝ }
 {
     let number = Quad::at(image, 2).number();
     let ReadDisplay::Read(display) = image::shown::Shown::at(image, 6).display() else {
-        return refused();
+        return ReadShown::Refused;
     };
     if display_fits(display) {
-        return showing_with(number, display, held::read(&image[17..], number));
+        if held::fits(&image[17..], number) {
+            return ReadShown::Picture(Picture { number, display });
+        }
+        return ReadShown::Refused;
     }
-    refused()
+    ReadShown::Refused
 }
 
-// The follower of an image; not ok for bytes that no well-formed follower is written as.
-pub fn read(image: &[u8]) -> ReadFollower
-    ensures { λ r. ⌜ r ≡ followerFrom (now (image .entry)) ⌝ }
+// What an image shows; what is held is looked at and stays in the image. Refused for bytes that no well-formed follower is written as.
+pub fn read_shown(image: &[u8]) -> ReadShown
+    ensures { λ r. ⌜ r ≡ shownRead (followerIn (now (image .entry))) ⌝ }
+    ensures { λ r. ⌜ ShownBy (now (image .entry)) r ⌝ }
 {
     if image.len() != 241 {
-        return refused();
+        return ReadShown::Refused;
     }
     if image[0] != 2 {
-        return refused();
+        return ReadShown::Refused;
     }
     match image[1] {
         0 => {
-            return read_lost(image);
+            return shown_lost(image);
         }
         1 => {
-            return read_showing(image);
+            return shown_picture(image);
         }
         _ => {
-            return refused();
+            return ReadShown::Refused;
         }
     }
 }
 
+// What is held when a number is shown, by value; not ok for bytes of another length than an image's or with slots that are none.
+pub fn read_held(image: &[u8], number: u32) -> ReadHeld
+    ensures { λ r. ⌜ r ≡ cond (eqb (length (now (image .entry))) 241) (heldRead (heldFrom number (drop 17 (now (image .entry))))) (heldRead none) ⌝ }
+{
+    if image.len() != 241 {
+        return ReadHeld {
+            ok: false,
+            held: Held::new(),
+        };
+    }
+    held::read(&image[17..], number)
+}
+
 // Writes the first six bytes: a follower's image, lost or showing, the number.
-fn put_head(image: &mut [u8], kind: u8, number: u32)
+pub fn put_head(image: &mut [u8], kind: u8, number: u32)
     ensures { λ r. ⌜ now (image .exit) ≡ sets (now (image .entry)) 0 (2 ∷ kind ∷ quadBytes (numberQuad number)) ⌝ }
 {
     let q = Quad::of_number(number);
@@ -154,12 +139,21 @@ fn put_head(image: &mut [u8], kind: u8, number: u32)
 }
 
 // Writes a lost follower.
-fn write_lost(image: &mut [u8], floor: u32)
+pub fn write_lost(image: &mut [u8], floor: u32)
     ensures { λ r. ⌜ now (image .exit) ≡ sets (now (image .entry)) 0 (lostBytes floor) ⌝ }
 {
     put_head(image, 0, floor);
     let z = [0u8; 235];
     place::put(image, 6, &z);
+}
+
+// Writes number and display of a follower that shows; what is held stays.
+pub fn put_shown(image: &mut [u8], number: u32, display: Display)
+    ensures { λ r. ⌜ now (image .exit) ≡ sets (now (image .entry)) 0 (shownHead number display) ⌝ }
+{
+    put_head(image, 1, number);
+    let b = image::shown::Shown::of_display(display).bytes();
+    place::put(image, 6, &b);
 }
 
 // Writes a follower that shows.
@@ -168,9 +162,7 @@ fn write_showing(image: &mut [u8], s: Picture, h: Held)
 {
     let number = s.number;
     let display = s.display;
-    put_head(image, 1, number);
-    let b = image::shown::Shown::of_display(display).bytes();
-    place::put(image, 6, &b);
+    put_shown(image, number, display);
     held::write(image, number, h);
 }
 

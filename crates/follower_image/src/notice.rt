@@ -10,6 +10,7 @@ use power_policy_interface::service::UnconstrainedState;
 use power_policy_interface::service::event::Event;
 use records::group::Group;
 ghost use mathlib.Core.Path.{_≡_};
+ghost use Rattle.image.specs.Tagged.{taggedAt};
 ghost use Rattle.follower_image.specs.Notice.{pairGroup, noticeTagged, placeTagged, restZero, consumerDisconnected, consumerConnected, providerDisconnected, providerConnected, unconstrainedChanged, noticeFrom, isZero, placeFrom};
 
 // What reading a notice finds.
@@ -203,7 +204,7 @@ fn is_zero(n: Tagged) -> bool
 }
 
 // The notice at place k of a count; zeros past the count.
-pub(crate) fn read_place(count: u8, k: u8, n: Tagged) -> ReadNotice
+fn read_place(count: u8, k: u8, n: Tagged) -> ReadNotice
     ensures { λ r. ⌜ r ≡ placeFrom count k n ⌝ }
 {
     if k < count {
@@ -218,4 +219,11 @@ pub(crate) fn read_place(count: u8, k: u8, n: Tagged) -> ReadNotice
         ));
     }
     ReadNotice::Refused
+}
+
+// The same from a place of a slot on. The bytes are read here: handed over as a value they would go through memory one by one.
+pub(crate) fn place_at(s: &[u8], at: usize, count: u8, k: u8) -> ReadNotice
+    ensures { λ r. ⌜ r ≡ placeFrom count k (taggedAt (now (s .entry)) at) ⌝ }
+{
+    read_place(count, k, Tagged::at(s, at))
 }

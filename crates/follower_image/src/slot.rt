@@ -5,10 +5,11 @@ use display::notices::Notices;
 use display::packet::EventPacket;
 use follower::held::no_packet;
 use image::place;
-use image::tagged::Tagged;
 use power_policy_interface::service::event::Event;
 ghost use mathlib.Core.Path.{_≡_};
-ghost use Rattle.follower_image.specs.Slot.{packetBytes, slotBytes, noticesFrom, fromSecond, fromThird, fromFourth, headFits, packetFrom, zeros, slotFrom};
+ghost use mathlib.Core.Bool.{_&&_};
+ghost use lib.Dec.{eqb};
+ghost use Rattle.follower_image.specs.Slot.{packetBytes, slotBytes, noticesFrom, fromSecond, fromThird, fromFourth, headFits, packetFrom, zeros, slotFrom, isRead};
 
 // What reading the notices of a slot finds.
 pub enum ReadNotices {
@@ -77,7 +78,7 @@ fn packet_bytes(p: EventPacket) -> [u8; 32]
 }
 
 // The 32 bytes of a slot: zeros for none.
-pub(crate) fn bytes(p: EventPacket) -> [u8; 32]
+pub fn bytes(p: EventPacket) -> [u8; 32]
     ensures { λ r. ⌜ r ≡ slotBytes p ⌝ }
 {
     if p.number == 0 {
@@ -86,25 +87,34 @@ pub(crate) fn bytes(p: EventPacket) -> [u8; 32]
     packet_bytes(p)
 }
 
-// Whether every byte is 0.
-pub(crate) fn is_zero(s: &[u8]) -> bool
+// Whether the bytes passed and this one are 0.
+fn and_zero(passed: bool, b: u8) -> bool
+    ensures { λ r. ⌜ r ≡ (passed && eqb b 0) ⌝ }
+{
+    if b != 0 {
+        return false;
+    }
+    passed
+}
+
+// Whether every byte is 0. All are looked at, so that several can be at once.
+pub fn is_zero(s: &[u8]) -> bool
     ensures { λ r. ⌜ r ≡ zeros (now (s .entry)) ⌝ }
 {
+    let mut zero = true;
     let mut i: usize = 0;
     while i < s.len() {
-        if s[i] != 0 {
-            return false;
-        }
+        zero = and_zero(zero, s[i]);
         i += 1;
     }
-    true
+    zero
 }
 
 // The notices of a slot, one place after the other.
 fn read_notices(s: &[u8], count: u8) -> ReadNotices
     ensures { λ r. ⌜ r ≡ noticesFrom count (now (s .entry)) ⌝ }
 {
-    match notice::read_place(count, 0, Tagged::at(s, 4)) {
+    match notice::place_at(s, 4, count, 0) {
         ReadNotice::Refused => {
             return ReadNotices::Refused;
         }
@@ -118,7 +128,7 @@ fn read_notices(s: &[u8], count: u8) -> ReadNotices
 fn read_second(s: &[u8], count: u8, first: Event) -> ReadNotices
     ensures { λ r. ⌜ r ≡ fromSecond count first (now (s .entry)) ⌝ }
 {
-    match notice::read_place(count, 1, Tagged::at(s, 11)) {
+    match notice::place_at(s, 11, count, 1) {
         ReadNotice::Refused => {
             return ReadNotices::Refused;
         }
@@ -132,7 +142,7 @@ fn read_second(s: &[u8], count: u8, first: Event) -> ReadNotices
 fn read_third(s: &[u8], count: u8, first: Event, second: Event) -> ReadNotices
     ensures { λ r. ⌜ r ≡ fromThird count first second (now (s .entry)) ⌝ }
 {
-    match notice::read_place(count, 2, Tagged::at(s, 18)) {
+    match notice::place_at(s, 18, count, 2) {
         ReadNotice::Refused => {
             return ReadNotices::Refused;
         }
@@ -146,7 +156,7 @@ fn read_third(s: &[u8], count: u8, first: Event, second: Event) -> ReadNotices
 fn read_fourth(s: &[u8], count: u8, first: Event, second: Event, third: Event) -> ReadNotices
     ensures { λ r. ⌜ r ≡ fromFourth count first second third (now (s .entry)) ⌝ }
 {
-    match notice::read_place(count, 3, Tagged::at(s, 25)) {
+    match notice::place_at(s, 25, count, 3) {
         ReadNotice::Refused => {
             return ReadNotices::Refused;
         }
@@ -204,7 +214,7 @@ fn read_packet(s: &[u8], number: u64) -> ReadSlot
 }
 
 // The slot of an event.
-pub(crate) fn read(s: &[u8], number: u64) -> ReadSlot
+pub fn read(s: &[u8], number: u64) -> ReadSlot
     ensures { λ r. ⌜ r ≡ slotFrom number (now (s .entry)) ⌝ }
 {
     match place::byte(s, 0, 0) {
@@ -220,5 +230,15 @@ pub(crate) fn read(s: &[u8], number: u64) -> ReadSlot
         _ => {
             return ReadSlot::Refused;
         }
+    }
+}
+
+// Whether the bytes are those of a slot of this event.
+pub fn fits(s: &[u8], number: u64) -> bool
+    ensures { λ r. ⌜ r ≡ isRead (slotFrom number (now (s .entry))) ⌝ }
+{
+    match read(s, number) {
+        ReadSlot::Refused => false,
+        ReadSlot::Read(_) => true,
     }
 }

@@ -1,259 +1,340 @@
-//! usage: speed [ROUNDS]
+//! usage: speed [ROUNDS [PREFIX]]
 //!
-//! Times each C function of the archive and of the plain implementation on the same calls, in turn, so many rounds each (200 if not given). A line for
-//! each function and size: nanoseconds a call of the fastest round, and their ratio. Each call has a fresh copy of its image, which is in the time of both.
+//! Times the C functions of the archive beside the plain implementation (rust/plain), and whole events also beside the original Rust. All make the same
+//! calls in turn, so many rounds each (200 if not given). A line for each list of calls: nanoseconds a call, or an event with its opening and all
+//! its answers, of the fastest round, and the archive's ratio to each other. Images are laid out before the time starts. Then a line for each function
+//! with the most stack that one of all these calls used. With PREFIX only the lines that begin so are measured.
+//!
+//! The original runs on its own structs, with devices that answer at once (original/src/lib.rs).
+//!
+//! Before anything is timed every call is compared: results, images and buffers of the archive with those of the plain implementation, and the orders and
+//! closes of the original with its. If they differ, the program ends with status 1.
+//!
+//! `run.sh` builds and runs this, without the original where its sources are not there, and adds the size of the archive.
 
-use std::{env, hint::black_box, time::Instant};
+// Built by build.rs.
+#[cfg(feature = "original")]
+extern crate original;
 
-const SERVICE_IMAGE: usize = 67;
-const FOLLOWER_IMAGE: usize = 241;
+mod functions;
+mod runs;
+#[cfg(all(target_arch = "x86_64", unix))]
+mod stack;
 
-/// A call and the image that it is made on.
-struct Case {
+use std::{
+    env,
+    hint::black_box,
+    process::ExitCode,
+    time::{Duration, Instant},
+};
+
+use functions::{BUFFER, Functions, Lent, PLAIN};
+use runs::{List, Run, Stream};
+
+/// Ports and chargers.
+const SIZES: [(u32, u32); 6] = [(1, 0), (1, 8), (4, 0), (4, 8), (16, 0), (16, 8)];
+
+/// Events of a run, and of the run that a follower is handed.
+const EVENTS: usize = 200;
+const LONG: usize = 2000;
+
+/// What a call left.
+#[derive(PartialEq, Eq)]
+struct After {
+    result: u64,
     image: Vec<u8>,
-    psus: Vec<u8>,
-    chargers: Vec<u8>,
-    /// Kind, device and detail; or the answer.
-    numbers: [u32; 3],
-    packet: Vec<u8>,
+    buffer: [u8; BUFFER],
 }
 
-#[derive(Clone, Copy, PartialEq, Eq)]
-enum Function {
-    Open,
-    Answer,
-    Order,
-    WritePacket,
-    WritePicture,
-    Take,
-    Shown,
-}
-
-/// Makes every call of a list by functions of these names in a module.
-macro_rules! make_calls {
-    ($name:ident, $module:path) => {
-        fn $name(function: Function, cases: &[Case]) {
-            use $module as m;
-            let mut image = [0; FOLLOWER_IMAGE];
-            let mut buffer = [0; 64];
-            for case in cases {
-                let image = &mut image[..case.image.len()];
-                image.copy_from_slice(&case.image);
-                let image = black_box(image);
-                let [a, b, c] = case.numbers;
-                black_box(match function {
-                    Function::Open => m::open(image, &case.psus, &case.chargers, a, b, c),
-                    Function::Answer => m::answer(image, &case.psus, &case.chargers, a),
-                    Function::Order => m::order(image),
-                    Function::WritePacket => m::write_packet(image, &mut buffer),
-                    Function::WritePicture => m::write_picture(image, &mut buffer),
-                    Function::Take => m::follower_take(image, &case.packet),
-                    Function::Shown => m::follower_shown(image),
-                });
-            }
+/// Makes each call of a list, and hands on its place, its image before it, and what it left.
+fn each_call(
+    functions: &Functions,
+    list: &List,
+    mut then: impl FnMut(usize, Vec<u8>, After) -> Result<(), String>,
+) -> Result<(), String> {
+    let mut next = list.calls[0].0.clone();
+    for (place, (own, lent)) in list.calls.iter().enumerate() {
+        if !list.goes_on {
+            next.clone_from(own);
         }
-    };
-}
-
-make_calls!(by_plain, plain);
-#[cfg(feature = "archive")]
-make_calls!(by_archive, power_policy::ffi);
-
-/// The fastest round, in nanoseconds a call.
-fn least(rounds: &[f64]) -> f64 {
-    rounds.iter().copied().fold(f64::INFINITY, f64::min)
-}
-
-fn time(make: fn(Function, &[Case]), function: Function, cases: &[Case]) -> f64 {
-    let start = Instant::now();
-    make(function, cases);
-    start.elapsed().as_nanos() as f64 / cases.len() as f64
-}
-
-fn report(name: &str, function: Function, cases: &[Case], rounds: usize) {
-    let mut plain = Vec::new();
-    #[cfg(feature = "archive")]
-    let mut archive = Vec::new();
-    for _ in 0..rounds {
-        plain.push(time(by_plain, function, cases));
-        #[cfg(feature = "archive")]
-        archive.push(time(by_archive, function, cases));
-    }
-    let plain = least(&plain);
-    #[cfg(feature = "archive")]
-    {
-        let archive = least(&archive);
-        println!(
-            "{name}: archive {archive:.1} ns, plain {plain:.1} ns, ratio {:.2}",
-            archive / plain
-        );
-    }
-    #[cfg(not(feature = "archive"))]
-    println!("{name}: plain {plain:.1} ns");
-}
-
-struct Rng(u64);
-
-impl Rng {
-    fn below(&mut self, end: u64) -> u64 {
-        self.0 = self
-            .0
-            .wrapping_mul(6364136223846793005)
-            .wrapping_add(1442695040888963407);
-        (self.0 >> 33) % end
-    }
-
-    fn capability(&mut self, flags: u8) -> [u8; 5] {
-        let mv = 5000 + 1000 * self.below(16) as u16;
-        let ma = 500 + 250 * self.below(11) as u16;
-        let ([v0, v1], [a0, a1]) = (mv.to_le_bytes(), ma.to_le_bytes());
-        [v0, v1, a0, a1, flags]
-    }
-
-    /// Idle or connected, with a capability two times in three and a request.
-    fn psus(&mut self, ports: u32) -> Vec<u8> {
-        let mut rows = Vec::new();
-        for _ in 0..ports {
-            let state = self.below(3) as u8 + 1;
-            let contract = if state == 1 {
-                [0; 5]
-            } else {
-                self.capability(2)
-            };
-            rows.push(state);
-            rows.extend(contract);
-            if self.below(3) == 0 {
-                rows.extend([0; 6]);
-            } else {
-                rows.push(1);
-                rows.extend(self.capability(3));
-            }
-            rows.push(1);
-            rows.extend(self.capability(2));
-        }
-        rows
-    }
-
-    fn chargers(&mut self, chargers: u32) -> Vec<u8> {
-        (0..chargers)
-            .flat_map(|_| [self.below(4) as u8, 0, 0, 0, 0, 0, 0])
-            .collect()
-    }
-}
-
-/// Calls of a run.
-#[derive(Default)]
-struct Run {
-    opens: Vec<Case>,
-    answers: Vec<Case>,
-    closed: Vec<Case>,
-    takes: Vec<Case>,
-}
-
-fn run(ports: u32, chargers: u32, events: usize) -> Run {
-    let mut rng = Rng(1);
-    let mut run = Run::default();
-    let mut image = [0; SERVICE_IMAGE];
-    plain::start(
-        &mut image, ports, chargers, 15000, 5000, 3000, 5000, 1500, 0, 0,
-    );
-    let mut follower = [0; FOLLOWER_IMAGE];
-    plain::follower_start(&mut follower);
-    let mut buffer = [0; 64];
-    let length = (plain::write_picture(&image, &mut buffer) >> 8) as usize;
-    plain::follower_take(&mut follower, &buffer[..length]);
-    for _ in 0..events {
-        let kind = [1, 1, 2, 3, 4][rng.below(5) as usize];
-        let mut case = Case {
-            image: image.to_vec(),
-            psus: rng.psus(ports),
-            chargers: rng.chargers(chargers),
-            numbers: [kind, rng.below(ports.into()) as u32, 0],
-            packet: Vec::new(),
+        let mut image = next.clone();
+        let mut buffer = [0xEE; BUFFER];
+        let result = functions.call(list.function, &mut image, lent, &mut buffer);
+        let before = std::mem::replace(&mut next, image.clone());
+        let after = After {
+            result,
+            image,
+            buffer,
         };
-        let [kind, device, detail] = case.numbers;
-        let mut result = plain::open(&mut image, &case.psus, &case.chargers, kind, device, detail);
-        run.opens.push(case);
+        then(place, before, after)
+            .map_err(|what| format!("{}: call {place} of {}: {what}", list.name, functions.name))?;
+    }
+    Ok(())
+}
+
+/// Every implementation does in a list what the plain one does, and refuses nothing.
+fn same(list: &List) -> Result<(), String> {
+    let mut wanted = Vec::new();
+    each_call(&PLAIN, list, |_, _, after| {
+        wanted.push(after);
+        Ok(())
+    })?;
+    for functions in functions::all() {
+        each_call(functions, list, |place, _, after| {
+            let result = after.result;
+            if result as u8 == 0 {
+                return Err(format!("refused, {result:#x}"));
+            }
+            if after != wanted[place] {
+                return Err(format!("not as plain, {result:#x}"));
+            }
+            Ok(())
+        })?;
+    }
+    Ok(())
+}
+
+/// Opens each event and answers until it closes.
+fn make_events(functions: &Functions, lent: &[Lent], image: &mut [u8], mut then: impl FnMut(u64)) {
+    let mut calls = lent.iter();
+    while let Some(open) = calls.next() {
+        let [kind, port, detail] = open.numbers;
+        let image = black_box(&mut *image);
+        let mut result = functions.open(image, open.psus, open.chargers, kind, port, detail);
+        then(result);
         while result as u8 == 1 {
-            case = Case {
-                image: image.to_vec(),
-                psus: rng.psus(ports),
-                chargers: rng.chargers(chargers),
-                numbers: [0; 3],
-                packet: Vec::new(),
-            };
-            result = plain::answer(&mut image, &case.psus, &case.chargers, 0);
-            run.answers.push(case);
-        }
-        let closed = |image: &[u8], packet: &[u8]| Case {
-            image: image.to_vec(),
-            psus: Vec::new(),
-            chargers: Vec::new(),
-            numbers: [0; 3],
-            packet: packet.to_vec(),
-        };
-        run.closed.push(closed(&image, &[]));
-        let failed = image[38] != 0;
-        let length = (plain::write_packet(&image, &mut buffer) >> 8) as usize;
-        run.takes.push(closed(&follower, &buffer[..length]));
-        plain::follower_take(&mut follower, &buffer[..length]);
-        if failed {
-            let length = (plain::write_picture(&image, &mut buffer) >> 8) as usize;
-            run.takes.push(closed(&follower, &buffer[..length]));
-            plain::follower_take(&mut follower, &buffer[..length]);
+            let Some(next) = calls.next() else { break };
+            result = functions.answer(image, next.psus, next.chargers, next.numbers[0]);
+            then(result);
         }
     }
-    run
 }
 
-/// One take of the run again, by a follower that holds seven packets.
-fn waiting(takes: &[Case]) -> Vec<Case> {
-    let mut follower = [0; FOLLOWER_IMAGE];
-    plain::follower_start(&mut follower);
-    plain::follower_take(&mut follower, &[2, 0, 0, 0, 0, 0]);
-    for number in 2..9 {
-        let packet = [
-            1, number, 0, 0, 2, 2, 1, 0xA0, 0x9C, 1, 0xB8, 0x17, 3, 5, 1, 1,
-        ];
-        plain::follower_take(&mut follower, &packet);
-    }
-    let case = |_| Case {
-        image: follower.to_vec(),
-        psus: Vec::new(),
-        chargers: Vec::new(),
-        numbers: [0; 3],
-        packet: vec![1, 1, 0, 0, 0],
+/// The run as the original takes it.
+#[cfg(feature = "original")]
+fn original_events(run: &Run) -> Box<dyn original::Events> {
+    let call = |call: &runs::Call| (call.numbers[0], call.records);
+    let event = |event: &Vec<runs::Call>| {
+        let [kind, port, detail] = event[0].numbers;
+        original::Event {
+            kind,
+            port,
+            detail,
+            calls: event.iter().map(call).collect(),
+        }
     };
-    takes.iter().map(case).collect()
+    let events: Vec<_> = run.events.iter().map(event).collect();
+    original::events(run.ports, run.chargers, &run.records, &events).expect("a size that is built")
 }
 
-fn main() {
-    let rounds = env::args()
-        .nth(1)
-        .and_then(|text| text.parse().ok())
-        .unwrap_or(200);
-    for (ports, chargers) in [(1, 0), (2, 1), (4, 2), (8, 4), (16, 8)] {
-        let run = run(ports, chargers, 400);
-        let size = format!("{ports} ports, {chargers} chargers");
-        report(&format!("open, {size}"), Function::Open, &run.opens, rounds);
-        report(
-            &format!("answer, {size}"),
-            Function::Answer,
-            &run.answers,
-            rounds,
+/// Every implementation, the original too, gives in a run the orders and closes that it was made with.
+fn same_events(run: &Run) -> Result<(), String> {
+    let wanted: Vec<u64> = run
+        .events
+        .iter()
+        .flatten()
+        .map(|call| call.result)
+        .collect();
+    let differs = |name: &str, results: &[u64]| {
+        let place = results.iter().zip(&wanted).position(|(a, b)| a != b);
+        if place.is_none() && results.len() == wanted.len() {
+            return Ok(());
+        }
+        let place = place.unwrap_or(wanted.len().min(results.len()));
+        Err(format!(
+            "events, {}: call {place} of {name}: {:x?}, not {:x?}",
+            run.size(),
+            results.get(place),
+            wanted.get(place)
+        ))
+    };
+    let lent = run.all_lent();
+    for functions in functions::all() {
+        let (mut image, mut results) = (run.start.clone(), Vec::new());
+        make_events(functions, &lent, &mut image, |result| results.push(result));
+        differs(functions.name, &results)?;
+        if Some(&image) != run.closed.last() {
+            return Err(format!("events of {}: another image", functions.name));
+        }
+    }
+    #[cfg(feature = "original")]
+    differs("original", &original_events(run).results())?;
+    Ok(())
+}
+
+type Round<'a> = (&'a str, Box<dyn FnMut() -> Duration + 'a>);
+
+/// Runs all in turn and prints the fastest round of each, in nanoseconds by `count`, and the ratio of the archive to the others.
+fn report(name: &str, count: usize, rounds: usize, mut all: Vec<Round>) {
+    let mut least = vec![f64::INFINITY; all.len()];
+    for _ in 0..rounds {
+        for (least, (_, round)) in least.iter_mut().zip(&mut all) {
+            *least = least.min(round().as_nanos() as f64 / count as f64);
+        }
+    }
+    let times = all.iter().zip(&least);
+    let mut parts: Vec<_> = times
+        .map(|((name, _), time)| format!("{name} {time:.1} ns"))
+        .collect();
+    if all[0].0 == "archive" {
+        let others = all.iter().zip(&least).skip(1);
+        parts.extend(
+            others.map(|((name, _), time)| format!("archive/{name} {:.2}", least[0] / time)),
         );
-        if ports == 4 {
-            report("order", Function::Order, &run.closed, rounds);
-            report("write_packet", Function::WritePacket, &run.closed, rounds);
-            report("write_picture", Function::WritePicture, &run.closed, rounds);
-            report("take, applied at once", Function::Take, &run.takes, rounds);
-            report(
-                "take, seven held are applied",
-                Function::Take,
-                &waiting(&run.takes),
-                rounds,
-            );
-            report("shown", Function::Shown, &run.takes, rounds);
+    }
+    println!("{name}: {}", parts.join(", "));
+}
+
+fn time_list(list: &List, rounds: usize) {
+    let fresh: Vec<u8> = list
+        .calls
+        .iter()
+        .flat_map(|(image, _)| image.clone())
+        .collect();
+    let length = list.calls[0].0.len();
+    let round = |functions: &'static Functions| -> Round<'_> {
+        let fresh = &fresh;
+        let mut images = fresh.clone();
+        let mut buffer = [0; BUFFER];
+        let round = move || {
+            images.copy_from_slice(fresh);
+            let start = Instant::now();
+            let mut left = images.chunks_exact_mut(length);
+            let mut image = left.next().expect("a call");
+            for (_, lent) in &list.calls {
+                let present = black_box(&mut *image);
+                black_box(functions.call(list.function, present, lent, &mut buffer));
+                if !list.goes_on {
+                    image = left.next().unwrap_or(image);
+                }
+            }
+            start.elapsed()
+        };
+        (functions.name, Box::new(round))
+    };
+    let all = functions::all().into_iter().map(round).collect();
+    report(&list.name, list.calls.len(), rounds, all);
+}
+
+fn time_events(run: &Run, rounds: usize) {
+    let lent = run.all_lent();
+    let round = |functions: &'static Functions| -> Round<'_> {
+        let lent = &lent;
+        let mut image = run.start.clone();
+        let round = move || {
+            image.copy_from_slice(&run.start);
+            let start = Instant::now();
+            make_events(functions, lent, &mut image, |result| {
+                black_box(result);
+            });
+            start.elapsed()
+        };
+        (functions.name, Box::new(round))
+    };
+    #[allow(unused_mut)]
+    let mut all: Vec<Round> = functions::all().into_iter().map(round).collect();
+    #[cfg(feature = "original")]
+    {
+        let events = original_events(run);
+        let round = move || {
+            let start = Instant::now();
+            events.run();
+            start.elapsed()
+        };
+        all.push(("original", Box::new(round)));
+    }
+    report(&run.name(), run.events.len(), rounds, all);
+}
+
+/// The most stack that each function used in all lists.
+#[cfg(all(target_arch = "x86_64", unix))]
+fn report_stack(lists: &[List], prefix: &str) -> Result<(), String> {
+    use functions::Function;
+
+    let mut stack = stack::Stack::new();
+    for (function, name) in Function::ALL {
+        let name = format!("stack, {name}");
+        if !name.starts_with(prefix) {
+            continue;
+        }
+        let mut parts = Vec::new();
+        for functions in functions::all() {
+            let mut most = 0;
+            for list in lists.iter().filter(|list| list.function == function) {
+                each_call(functions, list, |place, mut image, after| {
+                    let mut buffer = [0xEE; BUFFER];
+                    let lent = &list.calls[place].1;
+                    let (address, words) = functions.words(function, &mut image, lent, &mut buffer);
+                    // Safety: this is the call that was just made, on the image as it was before.
+                    let (result, used) = unsafe { stack.call(address, &words) };
+                    let painted = After {
+                        result,
+                        image,
+                        buffer,
+                    };
+                    if painted != after {
+                        return Err("another result on the painted stack".to_owned());
+                    }
+                    most = most.max(used.ok_or("more stack than is painted")?);
+                    Ok(())
+                })?;
+            }
+            parts.push(format!("{} {most} bytes", functions.name));
+        }
+        println!("{name}: {}", parts.join(", "));
+    }
+    Ok(())
+}
+
+#[cfg(not(all(target_arch = "x86_64", unix)))]
+fn report_stack(_lists: &[List], _prefix: &str) -> Result<(), String> {
+    println!("stack: not measured on this machine");
+    Ok(())
+}
+
+fn all(rounds: usize, prefix: &str) -> Result<(), String> {
+    let runs = SIZES.map(|(ports, chargers)| Run::new(ports, chargers, EVENTS, false));
+    let long = Run::new(4, 8, LONG, true);
+    let stream = Stream::new(&long);
+    let mut lists: Vec<List> = runs.iter().map(runs::open_calls).collect();
+    lists.extend(runs.iter().map(|run| runs::answer_calls(run, EVENTS)));
+    lists.extend(runs::service_calls(&long, EVENTS));
+    lists.extend(stream.calls(EVENTS));
+    let timed = lists.len();
+    let runs_and_long = runs.iter().chain([&long]);
+    lists.extend(runs_and_long.map(|run| runs::answer_calls(run, usize::MAX)));
+
+    lists.iter().try_for_each(same)?;
+    runs.iter().try_for_each(same_events)?;
+    for list in &lists[..timed] {
+        if list.name.starts_with(prefix) {
+            time_list(list, rounds);
+        }
+    }
+    for run in &runs {
+        if run.name().starts_with(prefix) {
+            time_events(run, rounds);
+        }
+    }
+    report_stack(&lists, prefix)
+}
+
+fn main() -> ExitCode {
+    let arguments: Vec<_> = env::args().skip(1).collect();
+    let rounds = arguments.first().map_or(Ok(200), |text| text.parse());
+    let prefix = arguments.get(1).map_or("", |text| text);
+    let result = match rounds {
+        Ok(rounds) if rounds > 0 && arguments.len() <= 2 => all(rounds, prefix),
+        _ => {
+            eprintln!("usage: speed [ROUNDS [PREFIX]]");
+            return ExitCode::from(2);
+        }
+    };
+    match result {
+        Ok(()) => ExitCode::SUCCESS,
+        Err(what) => {
+            eprintln!("speed: {what}");
+            ExitCode::FAILURE
         }
     }
 }

@@ -1,15 +1,15 @@
--- What the calls ensure, by the cases on the way, is the definition.
-use mathlib.Core.Path.{refl}
-use borrow.Author.Needs.{needs}
+-- A fresh follower is lost with floor 0.
+use mathlib.Core.Path.{refl, sym, _∙_}
+use denote.Ref.{now}
 use borrow.Author.Tests.{eq-eqb, ne-eqb}
+use Rattle.image.proofs.Places.{sets-all}
+use Rattle.follower_image.specs.Image.{lostBytes}
+use borrow.Author.Needs.{needs}
 use Rattle.follower_calls.proofs.start.Statement.{statement}
 use Rattle.follower_calls.proofs.start.Tie as tie
 
-new-requires : tie.Need-new-requires
-new-requires c κs = search needs
-
-write-requires : tie.Need-write-requires
-write-requires c κs = search needs
+write-lost-requires : tie.Need-write-lost-requires
+write-lost-requires c κs = search needs
 
 done-requires : tie.Need-done-requires
 done-requires c κs = search needs
@@ -19,7 +19,9 @@ same-length c = search needs
 
 returns : tie.Need-returns
 returns c =
-    rw (c .done .ensures, c .before .before .before .write .ensures, c .before .before .before .before .new .ensures, eq-eqb _ _ (c .before .before .before .before .before .before .if1 .taken)) (refl, refl)
+    let x = c .before .before .before .before .before .before .before .args in
+    let l = c .before .before .before .before .before .if1 .taken in
+    rw (c .done .ensures, eq-eqb _ _ l) (refl, c .before .before .before .write-lost .ensures ∙ sets-all (lostBytes 0) (now (x .image)) (sym l))
 
 refused-requires : tie.Need-refused-requires
 refused-requires c κs = search needs
@@ -31,11 +33,4 @@ returns-2 c =
 pub start-spec : {M : Type 1} → statement M
 start-spec =
     tie.close
-    (tie.spec
-    new-requires
-    write-requires
-    done-requires
-    same-length
-    returns
-    refused-requires
-    returns-2)
+    (tie.spec write-lost-requires done-requires same-length returns refused-requires returns-2)

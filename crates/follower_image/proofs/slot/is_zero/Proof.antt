@@ -1,32 +1,30 @@
--- The bytes passed are zeros.
+-- What is known of the bytes passed, and what is left, decide.
 use mathlib.Core.Path.{_≡_, refl, sym}
+use mathlib.Core.Bool.{_&&_}
 use Prim.Native.Nat.{_-_, _≤_}
 use native.Mathlib.Omega.{arith}
 use denote.Ref.{now}
 use lib.ListN.{length, drop}
 use Rattle.follower_image.specs.Slot.{zeros}
-use Rattle.follower_image.proofs.Readers.{zeros-next, zeros-stop, zeros-end}
+use Rattle.follower_image.proofs.Readers.{zeros-next, zeros-end}
 use borrow.Author.Needs.{needs}
 use Rattle.follower_image.proofs.slot.is_zero.Statement.{statement}
 use Rattle.follower_image.proofs.slot.is_zero.Tie as tie
 
 abbrev Inv-loop : tie.InvT-loop
-Inv-loop s i₀ i = (i ≤ length s) × (zeros s ≡ zeros (drop i s))
+Inv-loop s zero₀ i₀ zero i = (i ≤ length s) × (zeros s ≡ (zero && zeros (drop i s)))
 
 abbrev μ-loop : tie.MeasureT-loop
-μ-loop s i₀ i = length s - i
+μ-loop s zero₀ i₀ zero i = length s - i
 
 loop-holds : tie.Need-loop-holds Inv-loop μ-loop
 loop-holds c = (omega arith, refl)
 
-shared-slice-read-if1 : tie.Need-shared-slice-read-if1 Inv-loop μ-loop
-shared-slice-read-if1 c = search needs
+shared-slice-read-and-zero : tie.Need-shared-slice-read-and-zero Inv-loop μ-loop
+shared-slice-read-and-zero c = search needs
 
-returns : tie.Need-returns Inv-loop μ-loop
-returns c =
-    let l = c .before .before .before .loop in
-    let s = now (c .before .before .before .before .args .s) in
-    sym (zeros-stop s (l .i) (c .before .before .loop-test .taken) (c .if1 .taken) (l .inv .1))
+and-zero-requires : tie.Need-and-zero-requires Inv-loop μ-loop
+and-zero-requires c κs = search needs
 
 add-i : tie.Need-add-i Inv-loop μ-loop
 add-i c = search needs
@@ -37,14 +35,13 @@ loop-less c = omega arith
 loop-again : tie.Need-loop-again Inv-loop μ-loop
 loop-again c =
     let l = c .before .before .before .loop in
-    let s = now (c .before .before .before .before .args .s) in
-    (omega arith, zeros-next s (l .i) (c .before .before .loop-test .taken) (c .if1 .left) (l .inv .1))
+    let s = now (c .before .before .before .before .before .args .s) in
+    (omega arith, rw (c .and-zero .ensures) (zeros-next s (l .i) (l .zero) (l .inv .1) (c .before .before .loop-test .taken)))
 
-returns-2 : tie.Need-returns-2 Inv-loop μ-loop
-returns-2 c =
+returns : tie.Need-returns Inv-loop μ-loop
+returns c =
     let l = c .before .loop in
-    let s = now (c .before .before .args .s) in
-    sym (zeros-end s (l .i) (c .loop-test .left) (l .inv .1))
+    sym (zeros-end (now (c .before .before .before .args .s)) (l .i) (l .zero) (l .inv .1) (c .loop-test .left))
 
 pub is-zero-spec : {M : Type 1} → statement M
 is-zero-spec =
@@ -53,9 +50,9 @@ is-zero-spec =
     Inv-loop
     μ-loop
     loop-holds
-    shared-slice-read-if1
-    returns
+    shared-slice-read-and-zero
+    and-zero-requires
     add-i
     loop-less
     loop-again
-    returns-2)
+    returns)

@@ -1,23 +1,18 @@
 -- The place is what its seven bytes are read as.
-use mathlib.Core.Path.{sym, ap, _∙_}
-use Rattle.follower_image.specs.Notice.{placeFrom}
+use mathlib.Core.Path.{sym, _∙_}
 use borrow.Author.Needs.{needs}
 use Rattle.follower_image.proofs.slot.read_fourth.Statement.{statement}
 use Rattle.follower_image.proofs.slot.read_fourth.Tie as tie
 
-at-requires : tie.Need-at-requires
-at-requires c κs = search needs
-
-read-place-requires : tie.Need-read-place-requires
-read-place-requires c κs = search needs
+place-at-requires : tie.Need-place-at-requires
+place-at-requires c κs = search needs
 
 enum-told : tie.Need-enum-told
 enum-told c = search needs
 
 returns : tie.Need-returns
 returns c =
-    let count = c .before .before .before .before .before .args .count in
-    let e = ap (placeFrom count 3) (sym (c .before .before .before .at .ensures)) ∙ (sym (c .before .before .read-place .ensures) ∙ c .enum-told .given .1) in
+    let e = sym (c .before .before .place-at .ensures) ∙ c .enum-told .given .1 in
     rw e
 
 enum-known-fourth : tie.Need-enum-known-fourth
@@ -25,9 +20,8 @@ enum-known-fourth c = search needs
 
 returns-2 : tie.Need-returns-2
 returns-2 c =
-    let count = c .before .before .before .before .before .before .args .count in
-    let e = ap (placeFrom count 3) (sym (c .before .before .before .before .at .ensures)) ∙ (sym (c .before .before .before .read-place .ensures) ∙ c .before .fourth .given .1) in
+    let e = sym (c .before .before .before .place-at .ensures) ∙ c .before .fourth .given .1 in
     rw e
 
 pub read-fourth-spec : {M : Type 1} → statement M
-read-fourth-spec = tie.close (tie.spec at-requires read-place-requires enum-told returns enum-known-fourth returns-2)
+read-fourth-spec = tie.close (tie.spec place-at-requires enum-told returns enum-known-fourth returns-2)

@@ -1,23 +1,18 @@
 -- The place is what its seven bytes are read as.
-use mathlib.Core.Path.{sym, ap, _∙_}
-use Rattle.follower_image.specs.Notice.{placeFrom}
+use mathlib.Core.Path.{sym, _∙_}
 use borrow.Author.Needs.{needs}
 use Rattle.follower_image.proofs.slot.read_notices.Statement.{statement}
 use Rattle.follower_image.proofs.slot.read_notices.Tie as tie
 
-at-requires : tie.Need-at-requires
-at-requires c κs = search needs
-
-read-place-requires : tie.Need-read-place-requires
-read-place-requires c κs = search needs
+place-at-requires : tie.Need-place-at-requires
+place-at-requires c κs = search needs
 
 enum-told : tie.Need-enum-told
 enum-told c = search needs
 
 returns : tie.Need-returns
 returns c =
-    let count = c .before .before .before .before .before .args .count in
-    let e = ap (placeFrom count 0) (sym (c .before .before .before .at .ensures)) ∙ (sym (c .before .before .read-place .ensures) ∙ c .enum-told .given .1) in
+    let e = sym (c .before .before .place-at .ensures) ∙ c .enum-told .given .1 in
     rw e
 
 enum-known-first : tie.Need-enum-known-first
@@ -28,10 +23,9 @@ read-second-requires c κs = search needs
 
 returns-2 : tie.Need-returns-2
 returns-2 c =
-    let count = c .before .before .before .before .before .before .before .args .count in
-    let e = ap (placeFrom count 0) (sym (c .before .before .before .before .before .at .ensures)) ∙ (sym (c .before .before .before .before .read-place .ensures) ∙ c .before .before .first .given .1) in
+    let e = sym (c .before .before .before .before .place-at .ensures) ∙ c .before .before .first .given .1 in
     rw (e, c .read-second .ensures)
 
 pub read-notices-spec : {M : Type 1} → statement M
 read-notices-spec =
-    tie.close (tie.spec at-requires read-place-requires enum-told returns enum-known-first read-second-requires returns-2)
+    tie.close (tie.spec place-at-requires enum-told returns enum-known-first read-second-requires returns-2)
