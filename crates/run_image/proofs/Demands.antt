@@ -33,6 +33,7 @@ use Rattle.run_image.proofs.Images.{services-registration, calls-fit, i
 use Rattle.run_image.proofs.Turned.{call-back}
 use Rattle.run_image.proofs.Returns.{returns-are, buffers-are}
 use Rattle.run_image.proofs.Bounds.{orders-bound, stand-ends}
+use Rattle.run_image.proofs.Readers.{readers}
 use Rattle.run_image.proofs.Linked.{image-demand-3}
 
 -- from a well-formed service of which run's demands hold
@@ -70,7 +71,7 @@ module _ (s : Service) (good : Good s) (demands : run.Demands s) where
 
   image-demand-2 : Demand2 (serviceBytes s) (s .registration)
   image-demand-2 = record {
-    accepted = λ l b. (reached l, ap serviceFrom (sym (image l b)) ∙ image-read (reached l) (reached-good l b));
+    holds = λ l b. (reached l, ap serviceFrom (sym (image l b)) ∙ image-read (reached l) (reached-good l b), reached-equal l b);
     returns = λ l c b r.
         subst (λ (i : List ℕ). returned i c ≡ returnTo (defined (s .registration) l) c) (image l b)
         (returns-are (reached l) (defined (s .registration) l) (reached-good l b) (reached-equal l b) c);
@@ -83,6 +84,7 @@ module _ (s : Service) (good : Good s) (demands : run.Demands s) where
   image-demands = record {
     demand-1 = image-demand-1;
     demand-2 = image-demand-2;
+    readers = readers;
     demand-3 = λ calls b x e. image-demand-3 s calls b good (demands .demand-3 (callsOf (s .registration) calls) (calls-fit (s .registration) calls b)) x e;
   }
 

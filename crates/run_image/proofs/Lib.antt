@@ -5,5 +5,6 @@ pub mod Returns
 pub mod Bounds
 pub mod Written
 pub mod Takes
+pub mod Readers
 pub mod Linked
 pub mod Demands

@@ -26,7 +26,7 @@ use Rattle.run_image.specs.Definition.{callsOf}
 use Rattle.run_image.specs.Demands.{Demand3}
 use Rattle.run_image.specs.Takes.{taking, LostOn, ShowsOn, Handed, copy, turned-back, AllHanded}
 use Rattle.run_image.proofs.Written.{Short, IsWritten, wrote-are}
-use Rattle.run_image.proofs.Takes.{lost-on, on-lost, shows-on, on-shows}
+use Rattle.run_image.proofs.Takes.{lost-on, on-lost, shows-on, on-shows, take-returns, take-back}
 
 module _ (s : Service) (calls : List ByteCall) (bytes : CallsBytes calls) (good : Good s) (on : OnLink s (callsOf (s .registration) calls)) where
   abbrev source : Source
@@ -100,6 +100,8 @@ module _ (s : Service) (calls : List ByteCall) (bytes : CallsBytes calls) (good 
 
     pub image-demand-3 : Demand3 (serviceBytes s) (s .registration) calls x
     image-demand-3 = record {
+      returns = λ l y q. take-returns source x l e (all-handed l q) y;
+      turned-back = λ l y n q r. take-back source x l e (all-handed l q) y n r;
       a = λ l q.
           ⊎-elim (λ z. inl z) (λ z. inr (z .0, on .closed (z .0) .0 (z .1), subst (λ (d : Display). ShowsOn (taking x l) (z .0) d) (on .held (z .0)) (z .2))) (demand-a l q);
       b = λ before later n k d q w le comes above.

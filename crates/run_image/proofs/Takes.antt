@@ -23,7 +23,7 @@ use Rattle.follower_image.proofs.OneImage.{follower-length, follower-read-write
 use Rattle.follower_image.proofs.Takes.{packet-fits}
 use Rattle.calls.specs.Calls.{Called, called, refusedCall, putFollower, takenCall, takeCall, followerStartCall}
 use Rattle.calls.specs.Numbers.{doneNumber}
-use Rattle.run_image.specs.Takes.{takes, taking, LostOn, ShowsOn}
+use Rattle.run_image.specs.Takes.{takes, taking, takeTo, LostOn, ShowsOn}
 
 -- one take
 
@@ -39,6 +39,10 @@ take-bytes f x h =
     ap (λ (r : ReadFollower). cond {A = Called} (r .ok) (takenCall (followerBytes f) (r .follower) (readPacket x)) (refusedCall 21 (followerBytes f)) .bytes)
     (follower-read-write f h)
     ∙ taken-bytes f (readPacket x)
+
+taken-number : (b : List ℕ) (f : Follower) (y : ReadPacket) → takenCall b f y .number ≡ takeTo y
+taken-number b f (ReadPacket.Refused n) = refl
+taken-number b f (ReadPacket.Packet p) = refl
 
 -- a start
 
@@ -88,3 +92,16 @@ module _ (source : Source) where
 
     pub on-shows : (n : ℕ) (d : Display) → ShowsOn (taking b l) n d → Shows (after l) n d
     on-shows n d s = subst (λ (f : Follower). Shows f n d) (same (s .0) (s .1)) (s .2)
+
+    -- what a take returns and, turned back, leaves
+    pub take-returns : (y : List ℕ) → takeCall (taking b l) y .number ≡ takeTo (readPacket y)
+    take-returns y =
+        ap (λ (r : ReadFollower). cond {A = Called} (r .ok) (takenCall (taking b l) (r .follower) (readPacket y)) (refusedCall 21 (taking b l)) .number)
+        (taking-read b l e a)
+        ∙ taken-number (taking b l) (after l) (readPacket y)
+
+    pub take-back : (y : List ℕ) (n : ℕ) → readPacket y ≡ ReadPacket.Refused n → takeCall (taking b l) y .bytes ≡ taking b l
+    take-back y n q =
+        ap (λ (r : ReadFollower). cond {A = Called} (r .ok) (takenCall (taking b l) (r .follower) (readPacket y)) (refusedCall 21 (taking b l)) .bytes)
+        (taking-read b l e a)
+        ∙ ap (λ (z : ReadPacket). takenCall (taking b l) (after l) z .bytes) q

@@ -51,7 +51,7 @@ abbrev pub images : List ℕ → List ByteCall → List ℕ
 images b [] = b
 images b (c ∷ l) = images (imageAfter b c) l
 
--- records are given as bytes, as every slice of them is
+-- records are given as bytes, as every slice of them is; the theorems ask it of the ports' records, and hold whatever numbers the chargers' are
 abbrev pub CallBytes : ByteCall → Type 0
 CallBytes (openEvent psus chargers kind device detail) = AllBytes psus
 CallBytes (giveAnswer psus chargers a) = AllBytes psus

@@ -17,11 +17,13 @@ use Rattle.wire.specs.declared.packet.ReadPacket.{ReadPacket}
 use Rattle.link.specs.Link.{Comes, NothingAbove, NoLower}
 use Rattle.run.specs.Policy.{Policy, Stand, between, at, started, heldAt}
 use Rattle.run.specs.Run.{policies}
+use Rattle.run.specs.Demands.{Equal}
 use Rattle.service_image.specs.Image.{serviceFrom}
 use Rattle.service_image.specs.declared.ReadService.{ReadService}
 use Rattle.run_image.specs.Calls.{ByteCall, imageAfter, returned, bufferIn, bufferAfter, images, CallBytes, CallsBytes, Wrote}
 use Rattle.run_image.specs.Definition.{callsOf, returnTo, bufferTo}
-use Rattle.run_image.specs.Takes.{taking, LostOn, ShowsOn, AllHanded}
+use Rattle.calls.specs.Calls.{takeCall}
+use Rattle.run_image.specs.Takes.{taking, takeTo, LostOn, ShowsOn, Readers, AllHanded}
 
 -- the definition after these calls
 abbrev pub defined : Registration → List ByteCall → Policy
@@ -48,14 +50,19 @@ pub record Demand1 (image : List ℕ) (g : Registration) : Type 0 where
       (imageAfter (images image l) c ≡ images image l) × (bufferAfter (images image l) c ≡ bufferIn c)
 
 pub record Demand2 (image : List ℕ) (g : Registration) : Type 0 where
-  -- 21 never arises
-  pub accepted : (l : List ByteCall) → CallsBytes l → (s : Service) × (serviceFrom (images image l) ≡ ReadService.Read s)
+  -- 21 never arises, and the image holds what the definition holds: between events the whole state, the power state too, and the last answer; while one is
+  -- open, its order and what every answer leads to (`Equal`)
+  pub holds : (l : List ByteCall) → CallsBytes l → (s : Service) × (serviceFrom (images image l) ≡ ReadService.Read s) × Equal s (defined g l)
   -- whatever call comes next returns what the definition says, and leaves that in its buffer
   pub returns : (l : List ByteCall) (c : ByteCall) → CallsBytes l → CallBytes c → returned (images image l) c ≡ returnTo (defined g l) c
   pub buffers : (l : List ByteCall) (c : ByteCall) → CallsBytes l → bufferAfter (images image l) c ≡ bufferTo (defined g l) c
 
 -- x is where the follower's image is kept
 pub record Demand3 (image : List ℕ) (g : Registration) (calls : List ByteCall) (x : List ℕ) : Type 0 where
+  -- a take is done, or turned back by the first of 30 to 33 that its bytes meet, never by 21; then the image is as it was
+  pub returns : (l : List (List ℕ)) (y : List ℕ) → AllHanded image calls l → takeCall (taking x l) y .number ≡ takeTo (readPacket y)
+  pub turned-back :
+      (l : List (List ℕ)) (y : List ℕ) (n : ℕ) → AllHanded image calls l → readPacket y ≡ ReadPacket.Refused n → takeCall (taking x l) y .bytes ≡ taking x l
   -- the follower says lost, or shows the n of an event that has closed (0: the start), with exactly what was held there
   pub a :
       (l : List (List ℕ)) → AllHanded image calls l →
@@ -76,4 +83,6 @@ pub record Demand3 (image : List ℕ) (g : Registration) (calls : List ByteCall)
 pub record Demands (image : List ℕ) (g : Registration) : Type 0 where
   pub demand-1 : Demand1 image g
   pub demand-2 : Demand2 image g
+  -- what the follower's readers return of an image that is lost or shows
+  pub readers : (b : List ℕ) → Readers b
   pub demand-3 : (calls : List ByteCall) → CallsBytes calls → (x : List ℕ) → length x ≡ 241 → Demand3 image g calls x
