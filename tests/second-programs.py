@@ -11,7 +11,7 @@ call left out. Changes that do not compile, or that compile to the same code, ar
 A function is proved from its own code and from the contracts of what it calls, so the changes of different functions are judged in one run, at most one
 in a function. A change is refused by a fact (something of its function is no longer proved) or by the fit (its proof file names what is no longer
 there); what is not proved in the end for neither reason is tried again alone, and listed as undecided if that does not help. A program that is
-still proved is run on its input, and refused if it writes something else than its file stdout.
+still proved is run on its input, and refused if it writes something else than its file stdout, or by its own test (tests/CRATE.sh).
 
 tests/second-programs.equal names the changes that leave the behaviour the same, a line each: FUNCTION | OLD | NEW | why. Any other change that is still
 proved makes the exit status 1. All is drawn from the seed: the same options and crates give the same changes, unless time runs out.
@@ -245,6 +245,7 @@ class Place:
         os.makedirs(folder)
         shutil.copy(os.path.join(ROOT, "crates.txt"), folder)
         shutil.copytree(os.path.join(ROOT, "crates"), os.path.join(folder, "crates"), ignore=shutil.ignore_patterns("must-fail"))
+        shutil.copytree(os.path.join(ROOT, "tests"), os.path.join(folder, "tests"))
         for name in ("rlib", "stamp", "log", "bin"):
             old = os.path.join(ROOT, "target", name)
             if os.path.isdir(old):
@@ -352,8 +353,11 @@ def judge(place, crate, batch):
 
 
 def runs(place, crate, batch):
-    """Whether a program with these changes writes what its file stdout has: run without its proof where the toolchain can, else with it."""
+    """Whether a program with these changes writes what its file stdout has, run without its proof where the toolchain can, else with it; and passes its own
+    test, tests/CRATE.sh, where it has one."""
     place.write(crate, batch)
+    if os.path.exists(os.path.join(ROOT, "tests", crate + ".sh")):
+        return place.run(["rt", "check", crate])[0] == 0 and place.run(["sh", "tests/%s.sh" % crate])[0] == 0
     status, said = place.run(["rt", "try", crate])
     if status != 0 and not batch:
         place.tries = False
