@@ -31,6 +31,7 @@ use Rattle.run_image.specs.Demands.{defined, Ends, Demand1, Demand2, Dem
 use Rattle.run_image.proofs.Numbers.{refused-low, done-low}
 use Rattle.run_image.proofs.Images.{services-registration, calls-fit, image-read, images-are}
 use Rattle.run_image.proofs.Turned.{call-back}
+use Rattle.run_image.proofs.Lowest.{call-refuses}
 use Rattle.run_image.proofs.Returns.{returns-are, buffers-are}
 use Rattle.run_image.proofs.Bounds.{orders-bound, stand-ends}
 use Rattle.run_image.proofs.Readers.{readers}
@@ -67,7 +68,7 @@ module _ (s : Service) (good : Good s) (demands : run.Demands s) where
       (stand-ends (reached l) (defined (s .registration) l) (reached-good l b) (reached-equal l b)))
 
   image-demand-1 : Demand1 (serviceBytes s) (s .registration)
-  image-demand-1 = record { bound = bound; ends = ends; turned-back = λ l c b e. call-back (images (serviceBytes s) l) c e }
+  image-demand-1 = record { bound = bound; ends = ends; refuses = λ l c. call-refuses (images (serviceBytes s) l) c; turned-back = λ l c b e. call-back (images (serviceBytes s) l) c e }
 
   image-demand-2 : Demand2 (serviceBytes s) (s .registration)
   image-demand-2 = record {

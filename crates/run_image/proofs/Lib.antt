@@ -1,6 +1,7 @@
 pub mod Images
 pub mod Numbers
 pub mod Turned
+pub mod Lowest
 pub mod Returns
 pub mod Bounds
 pub mod Written

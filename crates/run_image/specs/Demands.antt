@@ -21,6 +21,7 @@ use Rattle.run.specs.Demands.{Equal}
 use Rattle.service_image.specs.Image.{serviceFrom}
 use Rattle.service_image.specs.declared.ReadService.{ReadService}
 use Rattle.run_image.specs.Calls.{ByteCall, imageAfter, returned, bufferIn, bufferAfter, images, CallBytes, CallsBytes, Wrote}
+use Rattle.run_image.specs.Refused.{conditions, Refuses}
 use Rattle.run_image.specs.Definition.{callsOf, returnTo, bufferTo}
 use Rattle.calls.specs.Calls.{takeCall}
 use Rattle.run_image.specs.Takes.{taking, takeTo, LostOn, ShowsOn, Readers, AllHanded}
@@ -44,6 +45,8 @@ Ends chargers image (at n o k) = (getD image 36 0 ≡ n) × AtMost (4 + 4 * char
 pub record Demand1 (image : List ℕ) (g : Registration) : Type 0 where
   pub bound : (l : List ByteCall) → CallsBytes l → getD (images image l) 36 0 ≤ 3 + 4 * g .chargers
   pub ends : (l : List ByteCall) → CallsBytes l → Ends (g .chargers) (images image l) (defined g l .stand)
+  -- a call is turned back by the lowest number that applies, and only if one does
+  pub refuses : (l : List ByteCall) (c : ByteCall) → Refuses (conditions (images image l) c) (returned (images image l) c)
   -- low byte 0 is a refusal: image and buffer are as they were
   pub turned-back :
       (l : List ByteCall) (c : ByteCall) → CallsBytes l → returned (images image l) c % 256 ≡ 0 →

@@ -1,4 +1,5 @@
 pub mod Calls
 pub mod Definition
 pub mod Takes
+pub mod Refused
 pub mod Demands
