@@ -1,68 +1,57 @@
--- The orders that the policy counts are those of the event's list: each order adds one on both sides, and an answer that is turned back none.
-use mathlib.Core.Path.{_≡_, refl, ap, _∙_}
+-- The definition counts the orders of its list, call by call: an order adds one on both sides, and what is turned back or written none.
+use mathlib.Core.Path.{_≡_, refl, subst}
 use mathlib.Core.Bool.{Bool, true, false, cond}
-use mathlib.Core.List.{List, [], _∷_}
+use mathlib.Core.List.{List, [], _∷_, _++_}
 use Prim.Native.Nat.{ℕ, suc, _+_}
 use native.Mathlib.Omega.{arith}
-use lib.ListN.{length}
-use Rattle.power_policy_interface.specs.declared.psu.Result.{Result}
+use lib.Dec.{eqb}
+use lib.ListN.{length, length-append}
 use Rattle.event.specs.declared.memory.Records.{Records}
 use Rattle.event.specs.declared.phase.Order.{Order}
-use Rattle.service.specs.Service.{resultOf}
-use Rattle.interaction.specs.Action.{Held, Interaction, done, ask}
-use Rattle.interaction.specs.Served.{Answers, noAnswer, fedBy, ordersBy}
-use Rattle.run.specs.Policy.{Call, giveAnswer, at, Policy, proceeds}
+use Rattle.power_policy_interface.specs.declared.psu.Result.{Result}
+use Rattle.service.specs.Service.{eventOf, resultOf}
+use Rattle.interaction.specs.Action.{Interaction, done, ask}
+use Rattle.interaction.specs.Interaction.{event}
+use Rattle.interaction.specs.Served.{noAnswer}
+use Rattle.run.specs.Policy.{Call, openEvent, giveAnswer, writePacket, writePicture, Stand, between, at, Policy, proceeds, openRefused, answers, policyAfter}
 use Rattle.run.specs.Run.{policies}
+use Rattle.run.specs.Orders.{withOrder, answerOrders, ordersAfter, ordersOf, Counted}
 
--- the calls that give these answers
-abbrev pub given : Answers → List Call
-given [] = []
-given (x ∷ l) = giveAnswer (x .0) (x .1) ∷ given l
+abbrev Counts : Policy → List Order → Type 0
+Counts p l = Counted (p .stand) (p .orders) l
 
--- n orders are given, and this is left
-abbrev pub reached : Policy → ℕ → Interaction → Policy
-reached p n (done a h) = proceeds p n (done a h)
-reached p n (ask o k) =
-    record { registration = p .registration; number = p .number; state = p .state; answer = p .answer; orders = p .orders; notices = p .notices; stand = at n o k }
+-- after n orders, which are listed, the event closes or asks once more
+proceeds-counts : (p : Policy) (n : ℕ) (i : Interaction) (l : List Order) → n ≡ length l → Counts (proceeds p n i) (withOrder l i)
+proceeds-counts p n (done a h) l e = e
+proceeds-counts p n (ask o k) l e =
+    let x : length (l ++ (o ∷ [])) ≡ length l + 1 = length-append l (o ∷ []) in
+    omega (arith, e, x)
 
-closed-stays : (l : Answers) (p : Policy) (n : ℕ) (a : Result) (h : Held) → policies (proceeds p n (done a h)) (given l) ≡ proceeds p n (done a h)
-closed-stays [] p n a h = refl
-closed-stays (x ∷ l) p n a h = closed-stays l p n a h
+opens-counts : (p q : Policy) (l m : List Order) (a b : Bool) → Counts p l → Counts q m → Counts (cond a (cond b p q) p) (cond a (cond b l m) l)
+opens-counts p q l m true true c d = c
+opens-counts p q l m true false c d = d
+opens-counts p q l m false b c d = c
 
--- an order on the way leaves what the event before has left
-passes : (p : Policy) (n m : ℕ) (o : Order) (k : Result → Records → Interaction) (i : Interaction) → proceeds (proceeds p n (ask o k)) m i ≡ proceeds p m i
-passes p n m o k (done a h) = refl
-passes p n m o k (ask q f) = refl
-
-no-more : (n : ℕ) → n ≡ n + 0
-no-more n = omega arith
-
-one-more : (n : ℕ) → suc n ≡ n + 1
-one-more n = omega arith
-
-more : (n m : ℕ) → suc n + m ≡ n + suc m
-more n m = omega arith
-
-pub counts : (l : Answers) (i : Interaction) (p : Policy) (n : ℕ) → policies (proceeds p n i) (given l) ≡ reached p (n + length (ordersBy i l)) (fedBy i l)
-counts l (done a h) p n = closed-stays l p n a h ∙ ap (λ m. proceeds p m (done a h)) (no-more n)
-counts [] (ask o k) p n = ap (λ m. reached p m (ask o k)) (one-more n)
-counts (x ∷ l) (ask o k) p n = go (noAnswer o (x .0)) (counts l (ask o k) p n) (counts l (k (resultOf (x .0)) (x .1)) p (suc n))
+answers-counts : (p : Policy) (s : Stand) (l : List Order) (a : ℕ) (r : Records) → p .stand ≡ s → Counts p l → Counts (answers s p a r) (answerOrders s l a r)
+answers-counts p between l a r e c = c
+answers-counts p (at n o k) l a r e c = go (noAnswer o a)
   where
-    next : Interaction
-    next = k (resultOf (x .0)) (x .1)
+    n-listed : n ≡ length l
+    n-listed = subst (λ (s : Stand). Counted s (p .orders) l) e c
 
-    go : (b : Bool) → policies (proceeds p n (ask o k)) (given l) ≡ reached p (n + length (ordersBy (ask o k) l)) (fedBy (ask o k) l) →
-        policies (proceeds p (suc n) next) (given l) ≡ reached p (suc n + length (ordersBy next l)) (fedBy next l) →
-        policies (cond b (proceeds p n (ask o k)) (proceeds (proceeds p n (ask o k)) (suc n) next)) (given l)
-        ≡ reached p (n + length (cond b (ordersBy (ask o k) l) (o ∷ ordersBy next l))) (cond b (fedBy (ask o k) l) (fedBy next l))
-    go true again on = again
-    go false again on =
-        ap (λ z. policies z (given l)) (passes p n (suc n) o k next)
-        ∙ (on ∙ ap (λ m. reached p m (fedBy next l)) (more n (length (ordersBy next l))))
+    go : (b : Bool) → Counts (cond b p (proceeds p n (k (resultOf a) r))) (cond b l (withOrder l (k (resultOf a) r)))
+    go true = c
+    go false = proceeds-counts p n (k (resultOf a) r) l n-listed
 
--- so an event that has closed has the number of its list
-pub orders-listed : (l : Answers) (i : Interaction) (p : Policy) (a : Result) (h : Held) → fedBy i l ≡ done a h →
-    policies (proceeds p 0 i) (given l) .orders ≡ length (ordersBy i l)
-orders-listed l i p a h e =
-    let z : 0 + length (ordersBy i l) ≡ length (ordersBy i l) = omega arith in
-    ap (λ (q : Policy). q .orders) (counts l i p 0 ∙ ap (λ j. reached p (0 + length (ordersBy i l)) j) e) ∙ z
+after-counts : (p : Policy) (l : List Order) (c : Call) → Counts p l → Counts (policyAfter p c) (ordersAfter p l c)
+after-counts p l (openEvent kind device detail r) h =
+    let i = event (p .registration) device (eventOf kind detail) (p .state) r in
+    opens-counts p (proceeds p 0 i) l (withOrder [] i) (eqb (openRefused p kind device detail) 0) (eqb kind 5) h (proceeds-counts p 0 i [] refl)
+after-counts p l (giveAnswer a r) h = answers-counts p (p .stand) l a r refl h
+after-counts p l writePacket h = h
+after-counts p l writePicture h = h
+
+-- over a whole run
+pub run-counts : (calls : List Call) (p : Policy) (l : List Order) → Counts p l → Counts (policies p calls) (ordersOf p l calls)
+run-counts [] p l h = h
+run-counts (c ∷ rest) p l h = run-counts rest (policyAfter p c) (ordersAfter p l c) (after-counts p l c h)

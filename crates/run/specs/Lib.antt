@@ -1,4 +1,5 @@
 pub mod Policy
 pub mod Run
+pub mod Orders
 pub mod Sized
 pub mod Demands

@@ -46,8 +46,8 @@ abbrev pub started : Registration → Policy
 started g =
     record { registration = g; number = 0; state = freshState; answer = Result.Ok; orders = 0; notices = []; stand = between }
 
--- after n orders the event closes, and has the next number, or asks once more. So an event's orders are those of its list, interaction's
--- `ordersBy` (proofs/Orders.antt)
+-- after n orders the event closes, and has the next number, or asks once more. What is counted is the length of the list of its orders
+-- (specs/Orders.antt)
 abbrev pub proceeds : Policy → ℕ → Interaction → Policy
 proceeds p n (done a h) =
     record { registration = p .registration; number = suc (p .number); state = h .state; answer = a; orders = n; notices = h .notices; stand = between }

@@ -2,7 +2,7 @@
 -- service that calls lead to; its image is read as it (Images.antt), and run's theorems hold of it.
 use mathlib.Core.Path.{_≡_, refl, sym, ap, _∙_, subst}
 use mathlib.Core.Bool.{Bool, true, false, cond}
-use mathlib.Core.List.{List}
+use mathlib.Core.List.{List, []}
 use Prim.Native.Nat.{ℕ, _+_, _*_, _%_, _≤_}
 use native.Mathlib.Omega.{arith}
 use lib.Dec.{eqb}
@@ -17,6 +17,8 @@ use Rattle.run.specs.Demands as run
 use Rattle.run.specs.Demands.{Equal}
 use Rattle.run.specs.Run.{services}
 use Rattle.run.specs.Sized.{MinimumFits, StartFits}
+use Rattle.run.specs.Policy.{started}
+use Rattle.run.proofs.Orders.{run-counts}
 use Rattle.run.proofs.Linked.{after-start}
 use Rattle.run.proofs.Starts.{start-fits}
 use Rattle.service_image.specs.Image.{serviceBytes, serviceFrom}
@@ -76,6 +78,7 @@ module _ (s : Service) (good : Good s) (demands : run.Demands s) where
     returns = λ l c b r.
         subst (λ (i : List ℕ). returned i c ≡ returnTo (defined (s .registration) l) c) (image l b)
         (returns-are (reached l) (defined (s .registration) l) (reached-good l b) (reached-equal l b) c);
+    orders = λ l. run-counts (callsOf (s .registration) l) (started (s .registration)) [] refl;
     buffers = λ l c b.
         subst (λ (i : List ℕ). bufferAfter i c ≡ bufferTo (defined (s .registration) l) c) (image l b)
         (buffers-are (reached l) (defined (s .registration) l) (reached-good l b) (reached-equal l b) c);

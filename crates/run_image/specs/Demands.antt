@@ -17,6 +17,7 @@ use Rattle.wire.specs.declared.packet.ReadPacket.{ReadPacket}
 use Rattle.link.specs.Link.{Comes, NothingAbove, NoLower}
 use Rattle.run.specs.Policy.{Policy, Stand, between, at, started, heldAt}
 use Rattle.run.specs.Run.{policies}
+use Rattle.run.specs.Orders.{ordersOf, Counted}
 use Rattle.run.specs.Demands.{Equal}
 use Rattle.service_image.specs.Image.{serviceFrom}
 use Rattle.service_image.specs.declared.ReadService.{ReadService}
@@ -58,6 +59,8 @@ pub record Demand2 (image : List ℕ) (g : Registration) : Type 0 where
   pub holds : (l : List ByteCall) → CallsBytes l → (s : Service) × (serviceFrom (images image l) ≡ ReadService.Read s) × Equal s (defined g l)
   -- whatever call comes next returns what the definition says, and leaves that in its buffer
   pub returns : (l : List ByteCall) (c : ByteCall) → CallsBytes l → CallBytes c → returned (images image l) c ≡ returnTo (defined g l) c
+  -- and the orders of a packet, or of the open event so far, are as many as the definition has given (0 to 35 by `bound`)
+  pub orders : (l : List ByteCall) → Counted (defined g l .stand) (defined g l .orders) (ordersOf (started g) [] (callsOf g l))
   pub buffers : (l : List ByteCall) (c : ByteCall) → CallsBytes l → bufferAfter (images image l) c ≡ bufferTo (defined g l) c
 
 -- x is where the follower's image is kept
