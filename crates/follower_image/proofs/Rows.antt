@@ -10,7 +10,7 @@ use native.Mathlib.Nat.{suc-mul}
 use native.Mathlib.Omega.{arith}
 use lib.Dec.{eqb, ltb, lit<}
 use lib.ListN.{length, getD, take, drop, length-append, length-set, length-drop, length-take, take-append-drop, List·getD-eq-default}
-use lib.Seq.{sets, length-sets, take-at, drop-at, drop-drop, getD-drop, getD-take, getD-set-same, getD-set-other, length-take-le, ext-getD}
+use lib.Seq.{take-at, drop-at, drop-drop, getD-drop, getD-take, getD-set-same, getD-set-other, length-take-le, ext-getD}
 use borrow.Author.Tests.{eqb-true, eqb-false, ltb-true, ltb-false}
 use Rattle.records.specs.Row.{AllBytes, written}
 use Rattle.display.specs.declared.packet.EventPacket.{EventPacket}
@@ -183,7 +183,7 @@ row-read m (suc k) s h g l c a e z q =
     (length-set (h .packets) (m % 8) (t .0) ∙ z) (t .2) in
     one-rowed m k s h g (t .0) l c a e z (t .1) r
 
--- the loops over the row
+-- the loop over the row
 
 pub slots-start : (m k : ℕ) (s : List ℕ) (h : Held) → slotsFrom m k s h ≡ slotsFrom (m + 0) (k - 0) (drop (0 * 32) s) h
 slots-start m k s h =
@@ -238,33 +238,3 @@ slot-is-read (ReadSlot.Read p) e = (p, refl)
 pub slot-is-refused : (x : ReadSlot) → isRead x ≡ false → x ≡ ReadSlot.Refused
 slot-is-refused ReadSlot.Refused e = refl
 slot-is-refused (ReadSlot.Read p) e = absurd (let z : _≡_ {A = ℕ} 0 1 = cc in omega arith)
-
--- the rest of the row, after i slots, is stored where they end
-
-pub start-put : (m k : ℕ) (h : Held) (o : List ℕ)
-    → sets o (17 + 0 * 32) (written slotBytes (slots (m + 0) (k - 0) h)) ≡ sets o 17 (written slotBytes (slots m k h))
-start-put m k h o =
-    let a : m + 0 ≡ m = omega arith in
-    let b : k - 0 ≡ k = omega arith in
-    rw (a, b)
-
-module _ (m k i : ℕ) (h : Held) (o q : List ℕ) where
-  pub put-length : q ≡ sets o (17 + i * 32) (slotBytes (heldFor h (m + i))) → length q ≡ length o
-  put-length e = ap length e ∙ length-sets o (17 + i * 32) (slotBytes (heldFor h (m + i)))
-
-  pub slot-put : i < k → q ≡ sets o (17 + i * 32) (slotBytes (heldFor h (m + i)))
-      → sets q (17 + (i + 1) * 32) (written slotBytes (slots (m + (i + 1)) (k - (i + 1)) h))
-      ≡ sets o (17 + i * 32) (written slotBytes (slots (m + i) (k - i) h))
-  slot-put l e =
-      let a : k - i ≡ suc (k - (i + 1)) = omega (arith, l) in
-      let b : 17 + (i + 1) * 32 ≡ 17 + i * 32 + length (slotBytes (heldFor h (m + i))) = omega (arith, slot-length (heldFor h (m + i))) in
-      let c : m + (i + 1) ≡ suc (m + i) = omega arith in
-      let r = written slotBytes (slots (suc (m + i)) (k - (i + 1)) h) in
-      rw (a, b, c)
-      (ap (λ (z : List ℕ). sets z (17 + i * 32 + length (slotBytes (heldFor h (m + i)))) r) e
-      ∙ places.sets-append (slotBytes (heldFor h (m + i))) r o (17 + i * 32))
-
-pub slots-put : (m k i : ℕ) (h : Held) (o : List ℕ) → k ≤ i → sets o (17 + i * 32) (written slotBytes (slots (m + i) (k - i) h)) ≡ o
-slots-put m k i h o l =
-    let a : k - i ≡ 0 = omega (arith, l) in
-    rw a

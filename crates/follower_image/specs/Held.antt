@@ -9,7 +9,6 @@ use Rattle.display.specs.declared.packet.EventPacket.{EventPacket}
 use Rattle.follower.specs.Held.{nothing, put, heldFor}
 use Rattle.follower.specs.declared.held.Held.{Held}
 use Rattle.follower_image.specs.Slot.{slotBytes, slotFrom}
-use Rattle.follower_image.specs.declared.held.ReadHeld.{ReadHeld}
 use Rattle.follower_image.specs.declared.slot.ReadSlot.{ReadSlot}
 
 -- what is held of k events from event m on
@@ -33,11 +32,7 @@ slotsFrom m (suc k) s h = slotThen (slotFrom m (take 32 s)) (λ p. slotsFrom (su
 abbrev pub heldFrom : ℕ → List ℕ → Option Held
 heldFrom n s = slotsFrom (n + 2) 7 s nothing
 
--- a refused row holds nothing
-abbrev pub heldRead : Option Held → ReadHeld
-heldRead none = record { ok = false; held = nothing }
-heldRead (some h) = record { ok = true; held = h }
-
+-- a refused row is none
 abbrev pub isHeld : Option Held → Bool
 isHeld none = false
 isHeld (some h) = true

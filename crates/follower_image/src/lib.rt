@@ -1,28 +1,21 @@
-// The follower's image: 241 bytes, and the follower out of them (docs/STATE.md).
+// The follower's image: 241 bytes (docs/STATE.md). What it shows is read and written here; what is held stays in its slots.
 pub mod held;
 pub mod notice;
 pub mod slot;
 
-use crate::held::ReadHeld;
 use display::Display;
 use display::OptionAvailableConsumer;
 use display::packet::Picture;
 use follower::Follower;
-use follower::Shown;
-use follower::held::Held;
 use image::place;
 use image::quad::Quad;
 use image::shown::ReadDisplay;
 ghost use mathlib.Core.Path.{_≡_};
-ghost use mathlib.Core.Bool.{cond};
 ghost use mathlib.Core.List.{_∷_};
-ghost use mathlib.Core.Option.{none};
-ghost use lib.Dec.{eqb};
-ghost use lib.ListN.{length, drop};
+ghost use lib.ListN.{length};
 ghost use lib.Seq.{sets};
 ghost use Rattle.image.specs.Quad.{quadBytes, numberQuad};
-ghost use Rattle.follower_image.specs.Held.{heldFrom, heldRead};
-ghost use Rattle.follower_image.specs.Image.{lostBytes, showingBytes, followerBytes, lostIn, portFits, displayFits, showingIn, followerIn, shownRead, ShownBy, shownHead};
+ghost use Rattle.follower_image.specs.Image.{lostBytes, lostIn, portFits, displayFits, showingIn, followerIn, shownRead, ShownBy, shownHead};
 
 // What the definitions say of an image; not ok, the follower is a fresh one. The functions read what is shown and what is held by themselves.
 pub struct ReadFollower {
@@ -116,19 +109,6 @@ pub fn read_shown(image: &[u8]) -> ReadShown
     }
 }
 
-// What is held when a number is shown, by value; not ok for bytes of another length than an image's or with slots that are none.
-pub fn read_held(image: &[u8], number: u32) -> ReadHeld
-    ensures { λ r. ⌜ r ≡ cond (eqb (length (now (image .entry))) 241) (heldRead (heldFrom number (drop 17 (now (image .entry))))) (heldRead none) ⌝ }
-{
-    if image.len() != 241 {
-        return ReadHeld {
-            ok: false,
-            held: Held::new(),
-        };
-    }
-    held::read(&image[17..], number)
-}
-
 // Writes the first six bytes: a follower's image, lost or showing, the number.
 pub fn put_head(image: &mut [u8], kind: u8, number: u32)
     ensures { λ r. ⌜ now (image .exit) ≡ sets (now (image .entry)) 0 (2 ∷ kind ∷ quadBytes (numberQuad number)) ⌝ }
@@ -154,34 +134,4 @@ pub fn put_shown(image: &mut [u8], number: u32, display: Display)
     put_head(image, 1, number);
     let b = image::shown::Shown::of_display(display).bytes();
     place::put(image, 6, &b);
-}
-
-// Writes a follower that shows.
-fn write_showing(image: &mut [u8], s: Picture, h: Held)
-    ensures { λ r. ⌜ now (image .exit) ≡ sets (now (image .entry)) 0 (showingBytes s h) ⌝ }
-{
-    let number = s.number;
-    let display = s.display;
-    put_shown(image, number, display);
-    held::write(image, number, h);
-}
-
-// Writes the image of a follower over bytes of any content; an image of another length is left as it was.
-pub fn write(image: &mut [u8], f: Follower)
-    ensures { λ r. ⌜ now (image .exit) ≡ cond (eqb (length (now (image .entry))) 241) (followerBytes f) (now (image .entry)) ⌝ }
-{
-    let n = image.len();
-    if n != 241 {
-        return;
-    }
-    let shown = f.shown;
-    let held = f.held;
-    match shown {
-        Shown::Lost(floor) => {
-            write_lost(image, floor);
-        }
-        Shown::Picture(s) => {
-            write_showing(image, s, held);
-        }
-    }
 }

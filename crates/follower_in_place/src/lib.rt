@@ -1,34 +1,39 @@
-// A take on the follower's image: what is held stays in its slots, and only what the packet changes is written. A follower by value is made only where
-// held packets may follow in turn.
+// A take on the follower's image: what is held stays in its slots, and only what the packet changes is written.
+pub mod turn;
+
+use crate::turn::OptionPicture;
+use crate::turn::drop_slots;
+use crate::turn::greatest;
+use crate::turn::in_turn;
 use display::packet::EventPacket;
 use display::packet::Packet;
 use display::packet::Picture;
-use follower::Follower;
-use follower::Shown;
 use follower::State;
 use follower::held::greater;
 use follower_image::ReadShown;
 use follower_image::put_head;
 use follower_image::put_shown;
-use follower_image::read_held;
 use follower_image::read_shown;
 use follower_image::slot;
 use follower_image::write_lost;
 use image::place;
 ghost use mathlib.Core.Path.{_≡_};
 ghost use mathlib.Core.Bool.{true, cond};
-ghost use Prim.Native.Nat.{_+_};
+ghost use mathlib.Core.List.{_++_};
+ghost use Prim.Native.Nat.{_+_, _*_, _-_, _<_, min};
 ghost use lib.Dec.{eqb};
-ghost use lib.ListN.{length, getD};
+ghost use lib.ListN.{length, getD, take, drop, replicate};
 ghost use lib.Seq.{sets};
 ghost use Rattle.display.specs.declared.packet.Packet.{Packet};
 ghost use Rattle.follower.specs.declared.Shown.{Shown};
 ghost use Rattle.follower.specs.declared.State.{State};
 ghost use Rattle.follower.specs.declared.held.Held.{Held};
+ghost use Rattle.follower.specs.Held.{greatest, above};
 ghost use Rattle.follower.specs.Follower.{lost, taken, takenAt};
 ghost use Rattle.follower_image.specs.Slot.{slotBytes};
-ghost use Rattle.follower_image.specs.Image.{lostBytes, followerBytes, followerFrom, ImageOf};
+ghost use Rattle.follower_image.specs.Image.{lostBytes, followerBytes, followerFrom, ImageOf, shownHead};
 ghost use Rattle.follower_in_place.specs.Taken.{noneIn, takenImage};
+ghost use Rattle.follower_in_place.specs.Turned.{turned, outcome};
 
 // Whether no slot holds a packet.
 fn none_held(image: &[u8]) -> bool
@@ -42,20 +47,6 @@ fn none_held(image: &[u8]) -> bool
     let f = place::byte(image, 177, 0) as u16;
     let g = place::byte(image, 209, 0) as u16;
     a + b + c + d + e + f + g == 0
-}
-
-// What is held may follow in turn: by value, with the whole image written.
-fn by_value(image: &mut [u8], s: Picture, p: Packet)
-    requires { ⌜ length (now image) ≡ 241 ⌝ }
-    ensures { λ _. ⌜ ((h : Held) → ImageOf (now (image .entry)) s h → now (image .exit) ≡ followerBytes (takenAt (Shown.Picture s) h p)) ⌝ }
-{
-    let read = read_held(image, s.number);
-    let held = read.held;
-    let follower = Follower {
-        shown: Shown::Picture(s),
-        held,
-    };
-    follower_image::write(image, follower.take(p));
 }
 
 // Lost: an event number raises the floor; a picture numbered at least the floor is shown, another is dropped.
@@ -86,30 +77,55 @@ fn hold(image: &mut [u8], at: usize, e: EventPacket)
     }
 }
 
-// The next event with nothing held: its notices act, or its error makes the follower lost.
-fn next_level(image: &mut [u8], s: Picture, e: EventPacket)
-    requires { ⌜ (length (now image) ≡ 241) × (noneIn (now image) ≡ true) × (e .number ≡ s .number + 1) ⌝ }
-    ensures { λ _. ⌜ ((h : Held) → ImageOf (now (image .entry)) s h → now (image .exit) ≡ followerBytes (takenAt (Shown.Picture s) h (Packet.Event e))) ⌝ }
+// Shows a picture in an image that shows n: the slots up to its number are dropped.
+fn show_after(image: &mut [u8], n: u32, q: Picture)
+    requires { ⌜ (length (now image) ≡ 241) × (n < q .number) ⌝ }
+    ensures { λ _. ⌜ now (image .exit) ≡ sets (take 17 (now (image .entry)) ++ (drop (17 + (q .number - n) * 32) (now (image .entry)) ++ replicate (min 224 ((q .number - n) * 32)) 0)) 0 (shownHead (q .number) (q .display)) ⌝ }
 {
-    if e.answer != 0 {
-        write_lost(image, e.number);
-        return;
-    }
-    let notices = e.notices;
-    let display = s.display;
-    put_shown(image, e.number, notices.apply(display));
+    drop_slots(image, q.number - n);
+    let display = q.display;
+    put_shown(image, q.number, display);
 }
 
-// The next event.
+// A picture above the one shown, and the packets that follow it in turn. With nothing held none does.
+fn advance(image: &mut [u8], s: Picture, p: Picture)
+    requires { ⌜ (length (now image) ≡ 241) × (s .number < p .number) ⌝ }
+    ensures { λ _. ⌜ ((h : Held) → ImageOf (now (image .entry)) s h → now (image .exit) ≡ followerBytes (outcome (greatest (p .number) 8 h) (turned 8 (p .number) (p .display) h) (p .number) (above (p .number) 8 h))) ⌝ }
+{
+    if none_held(image) {
+        let display = p.display;
+        put_shown(image, p.number, display);
+        return;
+    }
+    match in_turn(image, s.number, p) {
+        OptionPicture::None => {
+            let floor = greatest(image, s.number, p.number);
+            write_lost(image, floor);
+        }
+        OptionPicture::Some(q) => {
+            show_after(image, s.number, q);
+        }
+    }
+}
+
+// The next event: its notices act, or its error makes the follower lost.
 fn take_next(image: &mut [u8], s: Picture, e: EventPacket)
     requires { ⌜ (length (now image) ≡ 241) × (e .number ≡ s .number + 1) ⌝ }
     ensures { λ _. ⌜ ((h : Held) → ImageOf (now (image .entry)) s h → now (image .exit) ≡ followerBytes (takenAt (Shown.Picture s) h (Packet.Event e))) ⌝ }
 {
-    if none_held(image) {
-        next_level(image, s, e);
+    if e.answer != 0 {
+        let floor = greatest(image, s.number, e.number);
+        write_lost(image, floor);
         return;
     }
-    by_value(image, s, Packet::Event(e));
+    let notices = e.notices;
+    let shown = s.display;
+    let display = notices.apply(shown);
+    let p = Picture {
+        number: e.number,
+        display,
+    };
+    advance(image, s, p);
 }
 
 // Showing: an event packet numbered n or less is dropped; beyond n + 8 it makes the follower lost; n + 1 is the next; the others are held.
@@ -142,12 +158,7 @@ fn take_picture(image: &mut [u8], s: Picture, p: Picture)
     if p.number <= s.number {
         return;
     }
-    if none_held(image) {
-        let display = p.display;
-        put_shown(image, p.number, display);
-        return;
-    }
-    by_value(image, s, Packet::Picture(p));
+    advance(image, s, p);
 }
 
 // Showing: an event packet or a picture.

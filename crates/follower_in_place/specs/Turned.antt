@@ -1,0 +1,34 @@
+-- What the packets held make of a picture in turn, without what is then held: the same steps as follower's `inTurn`.
+use Prim.Native.Nat.{ℕ, zero, suc, _+_, _-_, max}
+use mathlib.Core.Bool.{cond}
+use lib.Dec.{eqb}
+use Rattle.display.specs.Notices.{allApplied}
+use Rattle.display.specs.declared.Display.{Display}
+use Rattle.follower.specs.Held.{heldFor, holds, dropped}
+use Rattle.follower.specs.Follower.{lost, showing, at}
+use Rattle.follower.specs.declared.Follower.{Follower}
+use Rattle.follower.specs.declared.held.Held.{Held}
+use Rattle.follower_in_place.specs.declared.turn.OptionPicture.{OptionPicture}
+
+-- none where one that follows has an error
+unfoldable pub turned : ℕ → ℕ → Display → Held → OptionPicture
+turned zero n d h = OptionPicture.Some (at n d)
+turned (suc k) n d h =
+    cond (holds h (n + 1))
+    (cond (eqb (heldFor h (n + 1) .answer) 0) (turned k (n + 1) (allApplied (heldFor h (n + 1) .notices) d) h) OptionPicture.None)
+    (OptionPicture.Some (at n d))
+
+-- the greatest of m and the numbers of k events from event e on
+unfoldable pub mostOf : ℕ → ℕ → ℕ → Held → ℕ
+mostOf m e zero h = m
+mostOf m e (suc k) h = max (mostOf m e k h) (heldFor h (e + k) .number)
+
+-- the j events after m are dropped
+abbrev pub droppedTo : ℕ → ℕ → Held → Held
+droppedTo zero m h = h
+droppedTo (suc j) m h = droppedTo j (m + 1) (dropped h (m + 1))
+
+-- the follower then: lost with the floor, or showing, with the events up to the number shown dropped
+abbrev pub outcome : ℕ → OptionPicture → ℕ → Held → Follower
+outcome f OptionPicture.None m h = lost f
+outcome f (OptionPicture.Some p) m h = showing p (droppedTo (p .number - m) m h)
