@@ -43,6 +43,11 @@ boundary=target/rust/release/boundary
 tested "refusals" $boundary refusals
 for seed in 1 2 3 4; do tested "random calls, seed $seed" $boundary random $seed 1000000; done
 tested "takes against the model" $boundary model 1 200000
+# Every byte read or written outside what is lent, and every byte used that nobody wrote, under valgrind.
+command -v valgrind >/dev/null || apt-get install -y -q valgrind >"$log" 2>&1
+watched="valgrind -q --error-exitcode=9 $boundary --exact"
+tested "random calls under valgrind" $watched random 5 200000
+tested "takes against the model under valgrind" $watched model 2 20000
 if [ -d "$src" ]; then
     if rust/build-overlay.sh && cargo build --offline --locked --release --quiet --manifest-path rust/oracle/Cargo.toml; then
         tested "the original, exhaustive" $boundary original exhaustive

@@ -1,5 +1,7 @@
 //! The functions under test, and one call of one of them with everything that it was lent.
 
+use std::sync::atomic::{AtomicUsize, Ordering};
+
 /// The eleven functions, on slices.
 pub trait Calls {
     #[allow(clippy::too_many_arguments)]
@@ -174,13 +176,20 @@ impl After {
     }
 }
 
-/// Bytes with guards before and after them.
-struct Lent {
-    bytes: Vec<u8>,
-    length: usize,
+/// How many guard bytes stand before and after what is lent.
+static GUARDS: AtomicUsize = AtomicUsize::new(24);
+
+/// From now on what is lent is a block of memory of its own, without guards, so that a tool that watches memory sees every byte read or
+/// written outside.
+pub fn lend_exactly() {
+    GUARDS.store(0, Ordering::Relaxed);
 }
 
-const GUARD: usize = 24;
+/// Bytes with guards before and after them.
+struct Lent {
+    bytes: Box<[u8]>,
+    guards: usize,
+}
 
 fn guard(place: usize) -> u8 {
     (place as u8).wrapping_mul(37) ^ 0x5C
@@ -188,26 +197,28 @@ fn guard(place: usize) -> u8 {
 
 impl Lent {
     fn new(content: &[u8]) -> Self {
-        let mut bytes: Vec<u8> = (0..GUARD).map(guard).collect();
+        let guards = GUARDS.load(Ordering::Relaxed);
+        let mut bytes: Vec<u8> = (0..guards).map(guard).collect();
         bytes.extend(content);
-        bytes.extend((0..GUARD).map(guard));
+        bytes.extend((0..guards).map(guard));
         Self {
-            bytes,
-            length: content.len(),
+            bytes: bytes.into_boxed_slice(),
+            guards,
         }
     }
 
     fn lend(&mut self) -> &mut [u8] {
-        &mut self.bytes[GUARD..GUARD + self.length]
+        let end = self.bytes.len() - self.guards;
+        &mut self.bytes[self.guards..end]
     }
 
     fn content(&self) -> &[u8] {
-        &self.bytes[GUARD..GUARD + self.length]
+        &self.bytes[self.guards..self.bytes.len() - self.guards]
     }
 
     fn guards_stand(&self) -> bool {
-        let end = &self.bytes[GUARD + self.length..];
-        let mut guards = (0..GUARD).map(guard).enumerate();
+        let end = &self.bytes[self.bytes.len() - self.guards..];
+        let mut guards = (0..self.guards).map(guard).enumerate();
         guards.all(|(place, byte)| self.bytes[place] == byte && end[place] == byte)
     }
 }

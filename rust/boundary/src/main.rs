@@ -21,6 +21,7 @@ const USAGE: &str = "usage:
     boundary [--self] original random SEED COUNT    so many random events, compared with the original Rust
     boundary [--self] model SEED COUNT              so many takes, compared with the model of packets and follower
 --self tests the plain implementation in place of the archive.
+--exact, before all else, lends blocks of memory of exactly the size, for a tool that watches memory.
 The original Rust is asked through the program `oracle` beside this one, or the one that POWER_POLICY_ORACLE names.";
 
 fn number<T: std::str::FromStr>(text: &str) -> Result<T, String> {
@@ -39,6 +40,13 @@ fn under_test(itself: bool) -> Result<&'static dyn Calls, String> {
 }
 
 fn run(arguments: &[&str]) -> Result<bool, String> {
+    let arguments = match arguments {
+        ["--exact", rest @ ..] => {
+            calls::lend_exactly();
+            rest
+        }
+        all => all,
+    };
     let (itself, arguments) = match arguments {
         ["--self", rest @ ..] => (true, rest),
         rest => (false, rest),
