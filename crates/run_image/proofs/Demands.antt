@@ -70,18 +70,18 @@ module _ (s : Service) (good : Good s) (demands : run.Demands s) where
       (stand-ends (reached l) (defined (s .registration) l) (reached-good l b) (reached-equal l b)))
 
   image-demand-1 : Demand1 (serviceBytes s) (s .registration)
-  image-demand-1 = record { bound = bound; ends = ends; refuses = λ l c. call-refuses (images (serviceBytes s) l) c; turned-back = λ l c b e. call-back (images (serviceBytes s) l) c e }
+  image-demand-1 = record { bound = bound; ends = ends; refuses = λ l c. call-refuses (images (serviceBytes s) l) c; turned-back = λ l c e. call-back (images (serviceBytes s) l) c e }
 
   image-demand-2 : Demand2 (serviceBytes s) (s .registration)
   image-demand-2 = record {
     holds = λ l b. (reached l, ap serviceFrom (sym (image l b)) ∙ image-read (reached l) (reached-good l b), reached-equal l b);
-    returns = λ l c b r.
+    returns = λ l c b.
         subst (λ (i : List ℕ). returned i c ≡ returnTo (defined (s .registration) l) c) (image l b)
         (returns-are (reached l) (defined (s .registration) l) (reached-good l b) (reached-equal l b) c);
-    orders = λ l. run-counts (callsOf (s .registration) l) (started (s .registration)) [] refl;
     buffers = λ l c b.
         subst (λ (i : List ℕ). bufferAfter i c ≡ bufferTo (defined (s .registration) l) c) (image l b)
         (buffers-are (reached l) (defined (s .registration) l) (reached-good l b) (reached-equal l b) c);
+    orders = λ l. run-counts (callsOf (s .registration) l) (started (s .registration)) [] refl;
   }
 
   image-demands : Demands (serviceBytes s) (s .registration)

@@ -21,7 +21,7 @@ use Rattle.run.specs.Orders.{ordersOf, Counted}
 use Rattle.run.specs.Demands.{Equal}
 use Rattle.service_image.specs.Image.{serviceFrom}
 use Rattle.service_image.specs.declared.ReadService.{ReadService}
-use Rattle.run_image.specs.Calls.{ByteCall, imageAfter, returned, bufferIn, bufferAfter, images, CallBytes, CallsBytes, Wrote}
+use Rattle.run_image.specs.Calls.{ByteCall, imageAfter, returned, bufferIn, bufferAfter, images, CallsBytes, Wrote}
 use Rattle.run_image.specs.Refused.{conditions, Refuses}
 use Rattle.run_image.specs.Definition.{callsOf, returnTo, bufferTo}
 use Rattle.calls.specs.Calls.{takeCall}
@@ -50,7 +50,7 @@ pub record Demand1 (image : List ℕ) (g : Registration) : Type 0 where
   pub refuses : (l : List ByteCall) (c : ByteCall) → Refuses (conditions (images image l) c) (returned (images image l) c)
   -- low byte 0 is a refusal: image and buffer are as they were
   pub turned-back :
-      (l : List ByteCall) (c : ByteCall) → CallsBytes l → returned (images image l) c % 256 ≡ 0 →
+      (l : List ByteCall) (c : ByteCall) → returned (images image l) c % 256 ≡ 0 →
       (imageAfter (images image l) c ≡ images image l) × (bufferAfter (images image l) c ≡ bufferIn c)
 
 pub record Demand2 (image : List ℕ) (g : Registration) : Type 0 where
@@ -58,10 +58,10 @@ pub record Demand2 (image : List ℕ) (g : Registration) : Type 0 where
   -- open, its order and what every answer leads to (`Equal`)
   pub holds : (l : List ByteCall) → CallsBytes l → (s : Service) × (serviceFrom (images image l) ≡ ReadService.Read s) × Equal s (defined g l)
   -- whatever call comes next returns what the definition says, and leaves that in its buffer
-  pub returns : (l : List ByteCall) (c : ByteCall) → CallsBytes l → CallBytes c → returned (images image l) c ≡ returnTo (defined g l) c
-  -- and the orders of a packet, or of the open event so far, are as many as the definition has given (0 to 35 by `bound`)
-  pub orders : (l : List ByteCall) → Counted (defined g l .stand) (defined g l .orders) (ordersOf (started g) [] (callsOf g l))
+  pub returns : (l : List ByteCall) (c : ByteCall) → CallsBytes l → returned (images image l) c ≡ returnTo (defined g l) c
   pub buffers : (l : List ByteCall) (c : ByteCall) → CallsBytes l → bufferAfter (images image l) c ≡ bufferTo (defined g l) c
+  -- the orders of a packet, or of the open event so far, are as many as the definition has given (0 to 35 by `bound`)
+  pub orders : (l : List ByteCall) → Counted (defined g l .stand) (defined g l .orders) (ordersOf (started g) [] (callsOf g l))
 
 -- x is where the follower's image is kept
 pub record Demand3 (image : List ℕ) (g : Registration) (calls : List ByteCall) (x : List ℕ) : Type 0 where
