@@ -2,7 +2,7 @@
 """usage: contracts.py
 
 Asks of every public function of a library that its contract fixes what it gives: no `requires`; an `ensures` that says what the result equals, if it
-has a result; and for every slice or array that it is lent by `&mut`, one that says what the bytes at exit equal. Whether what they equal is the right
+has a result, or what each of its fields equals; and for every slice or array that it is lent by `&mut`, one that says what the bytes at exit equal. Whether what they equal is the right
 thing is for a reader of the definitions. Programs are left out: they have no public function.
 Writes a line for each function that does not, and last 'N passed, M failed'.
 """
@@ -20,17 +20,31 @@ def contracts(text):
         head = text[m.end() : text.index("{\n", m.end())].rstrip()
         signature, clauses = re.match(r"(.*?)((?:\n *(?:ensures|requires) [^\n]*)*)$", head, re.S).groups()
         arguments, result = re.match(r"(.*)\)(?: -> (.*))?$", signature, re.S).groups()
+        if result == "Self":
+            result = re.findall(r"^impl (\w+) \{", text[: m.start()], re.M)[-1]
         yield m.group(2), arguments, result, clauses
 
 
-def faults(arguments, result, clauses):
+def structs(text):
+    """The fields of each public struct, by its name."""
+    return {name: set(re.findall(r"^ *pub (\w+):", body, re.M)) for name, body in re.findall(r"^pub struct (\w+) \{\n(.*?)^\}", text, re.M | re.S)}
+
+
+def equal(said, fields):
+    """Whether these clauses say what the result equals, whole or field by field."""
+    if re.search(r"λ r\. .*\br ≡ ", said):
+        return True
+    return bool(fields) and fields <= set(re.findall(r"\br \.(\w+) ≡ ", said))
+
+
+def faults(arguments, result, clauses, fields):
     """What the contract leaves open."""
     said = re.findall(r"ensures \{(.*)\}$", clauses, re.M)
     if "requires" in clauses:
         yield "has a requires"
     if not said:
         yield "has no ensures"
-    if result and not any(re.search(r"λ r\. .*\br (?:\.\w+ )?≡ ", s) for s in said):
+    if result and not any(equal(s, fields.get(result.strip())) for s in said):
         yield "does not say what the result equals"
     for name in re.findall(r"(\w+): &(?:'\w+ )?mut ", arguments):
         if not any("now (%s .exit) ≡ " % name in s for s in said):
@@ -46,7 +60,7 @@ def main():
                 continue
             text = open(path, encoding="utf-8").read()
             for function, arguments, result, clauses in contracts(text):
-                found = list(faults(arguments, result, clauses))
+                found = list(faults(arguments, result, clauses, structs(text)))
                 for fault in found:
                     print("%s: %s %s" % (os.path.relpath(path, ROOT), function, fault))
                 failed += bool(found)
