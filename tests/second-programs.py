@@ -24,6 +24,7 @@ import queue
 import random
 import re
 import shutil
+import signal
 import subprocess
 import sys
 import tempfile
@@ -252,12 +253,15 @@ class Place:
                 shutil.copytree(old, os.path.join(folder, "target", name))
 
     def run(self, words, seconds=1200):
-        try:
-            done = subprocess.run(words, cwd=self.folder, stdout=subprocess.PIPE, stderr=subprocess.STDOUT, timeout=seconds,
-                                  env=dict(os.environ, RT_CUT="0", RT_JOBS="1"), errors="replace")
-            return done.returncode, done.stdout
-        except subprocess.TimeoutExpired:
-            return None, ""
+        """The status and the output of a command; no status if it does not end in time, and then it is ended with all that it started."""
+        with subprocess.Popen(words, cwd=self.folder, stdout=subprocess.PIPE, stderr=subprocess.STDOUT, start_new_session=True,
+                              env=dict(os.environ, RT_CUT="0", RT_JOBS="1"), errors="replace") as child:
+            try:
+                said, _ = child.communicate(timeout=seconds)
+                return child.returncode, said
+            except subprocess.TimeoutExpired:
+                os.killpg(child.pid, signal.SIGKILL)
+                return None, ""
 
     def source(self, crate, file):
         return os.path.join(self.folder, "crates", crate, "src", file)
@@ -354,15 +358,15 @@ def judge(place, crate, batch):
 
 def runs(place, crate, batch):
     """Whether a program with these changes writes what its file stdout has, run without its proof where the toolchain can, else with it; and passes its own
-    test, tests/CRATE.sh, where it has one."""
+    test, tests/CRATE.sh, where it has one. A program that does not end within five minutes, its proof included, does not."""
     place.write(crate, batch)
     if os.path.exists(os.path.join(ROOT, "tests", crate + ".sh")):
-        return place.run(["rt", "check", crate])[0] == 0 and place.run(["sh", "tests/%s.sh" % crate])[0] == 0
-    status, said = place.run(["rt", "try", crate])
+        return place.run(["rt", "check", crate], 300)[0] == 0 and place.run(["sh", "tests/%s.sh" % crate], 300)[0] == 0
+    status, said = place.run(["rt", "try", crate], 300)
     if status != 0 and not batch:
         place.tries = False
     if not place.tries:
-        status, said = place.run(["rt", "check", crate])
+        status, said = place.run(["rt", "check", crate], 300)
     return status == 0
 
 
