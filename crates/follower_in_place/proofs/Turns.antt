@@ -27,7 +27,7 @@ use Rattle.follower.proofs.Laws.{event-new, picture-new, greatest-base, greates
 use Rattle.follower.proofs.Floor.{placed-floor}
 use Rattle.follower_image.proofs.Rows.{owner, owned}
 use Rattle.follower_image.proofs.OneImage.{held-next}
-use Rattle.follower_in_place.specs.Turned.{turned, mostOf, droppedTo, outcome}
+use Rattle.follower_in_place.specs.Turned.{turned, droppedTo, outcome}
 use Rattle.follower_in_place.specs.declared.turn.OptionPicture.{OptionPicture}
 
 -- a place that none of the events to come has does not matter
@@ -290,7 +290,11 @@ module _ (s : Picture) (h : Held) (w : Within (s .number + 2) (s .number + 8) h)
     pub event-lost : (e .answer ≡ 0 → ⊥) → takenAt (Shown.Picture s) h (Packet.Event e) ≡ lost (greatest (e .number) 8 h)
     event-lost z = new-event ∙ (first-turn (greatest (s .number) 8 (placed h e)) ∙ rw (ne-eqb _ _ z) (ap lost floor))
 
--- the greatest number held, slot by slot
+-- the greatest of m and the numbers of k events from event e on, slot by slot: the invariant of `greatest`'s loop
+
+unfoldable pub mostOf : ℕ → ℕ → ℕ → Held → ℕ
+mostOf m e zero h = m
+mostOf m e (suc k) h = max (mostOf m e k h) (heldFor h (e + k) .number)
 
 pub most-start : (m e : ℕ) (h : Held) → mostOf m e 0 h ≡ m
 unfolding mostOf

@@ -1,5 +1,5 @@
 -- What the packets held make of a picture in turn, without what is then held: the same steps as follower's `inTurn`.
-use Prim.Native.Nat.{ℕ, zero, suc, _+_, _-_, max}
+use Prim.Native.Nat.{ℕ, zero, suc, _+_, _-_}
 use mathlib.Core.Bool.{cond}
 use lib.Dec.{eqb}
 use Rattle.display.specs.Notices.{allApplied}
@@ -17,11 +17,6 @@ turned (suc k) n d h =
     cond (holds h (n + 1))
     (cond (eqb (heldFor h (n + 1) .answer) 0) (turned k (n + 1) (allApplied (heldFor h (n + 1) .notices) d) h) OptionPicture.None)
     (OptionPicture.Some (at n d))
-
--- the greatest of m and the numbers of k events from event e on
-unfoldable pub mostOf : ℕ → ℕ → ℕ → Held → ℕ
-mostOf m e zero h = m
-mostOf m e (suc k) h = max (mostOf m e k h) (heldFor h (e + k) .number)
 
 -- the j events after m are dropped
 abbrev pub droppedTo : ℕ → ℕ → Held → Held

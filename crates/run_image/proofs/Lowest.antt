@@ -44,16 +44,33 @@ moved-low : (b : List ℕ) (o : OptionOrder) (g : Registration) (n k : ℕ) (t :
 moved-low b OptionOrder.None g n k t e = let q : _≡_ {A = ℕ} 2 0 = sym (closed-low (answerIn (t .phase))) ∙ e in omega (arith, q)
 moved-low b (OptionOrder.Some o) g n k t e = let q : _≡_ {A = ℕ} 1 0 = sym (order-low o) ∙ e in omega (arith, q)
 
--- a step that the first number of a list decides
+-- a call that makes a step: 21 and 22, then the first number of a list decides
 
-module _ (b : List ℕ) (s : Service) (n : ℕ) (x : Stepped) (free : steppedCall b x .number % 256 ≡ 0 → ⊥) where
-  back-at : (t : Bool) → eqb n 0 ≡ t → (n ≡ 0 → ⊥) → steppedCall b (cond t x (refused n s)) .number ≡ refusedNumber n
-  back-at true e z = absurd (z (eqb-true n 0 e))
-  back-at false e z = refl
+step-refuses : (b : List ℕ) (s : Service) (psus chargers : List ℕ) (l : List (Bool × ℕ)) (x : Records → Stepped)
+    → ((t : Bool) → Lowest ((false, 21) ∷ (t, 22) ∷ l) (cond t 22 (firstRefused l)))
+    → ((r : Records) → steppedCall b (x r) .number % 256 ≡ 0 → ⊥)
+    → Refuses (ofImage (ReadService.Read s) (λ s. ofRecords s psus chargers l))
+    (onService b (ReadService.Read s) psus chargers (λ s r. cond (eqb (firstRefused l) 0) (x r) (refused (firstRefused l) s)) .number)
+step-refuses b s psus chargers l x low free = go (rows .ok)
+  where
+    rows : Rows
+    rows = rowsIn (s .registration) psus chargers
 
-  free-at : (t : Bool) → eqb n 0 ≡ t → n ≡ 0 → steppedCall b (cond t x (refused n s)) .number % 256 ≡ 0 → ⊥
-  free-at true e z = free
-  free-at false e z = absurd (eqb-false n 0 e z)
+    n : ℕ
+    n = firstRefused l
+
+    back : (t : Bool) → eqb n 0 ≡ t → (n ≡ 0 → ⊥) → steppedCall b (cond t (x (rows .records)) (refused n s)) .number ≡ refusedNumber n
+    back true e z = absurd (z (eqb-true n 0 e))
+    back false e z = refl
+
+    goes : (t : Bool) → eqb n 0 ≡ t → n ≡ 0 → steppedCall b (cond t (x (rows .records)) (refused n s)) .number % 256 ≡ 0 → ⊥
+    goes true e z = free (rows .records)
+    goes false e z = absurd (eqb-false n 0 e z)
+
+    go : (t : Bool) → Refuses ((false, 21) ∷ (not t, 22) ∷ l)
+        (cond t (steppedCall b (cond (eqb n 0) (x (rows .records)) (refused n s))) (refusedCall 22 b) .number)
+    go true = record { lowest = low false; turned-back = back (eqb n 0) refl; accepted = goes (eqb n 0) refl }
+    go false = record { lowest = low true; turned-back = λ z. refl; accepted = λ e. absurd (omega (arith, e)) }
 
 -- open and answer
 
@@ -69,23 +86,10 @@ open-refuses : (b : List ℕ) (r : ReadService) (psus chargers : List ℕ) (kind
     (onService b r psus chargers (λ s x. openOf s kind device detail x) .number)
 open-refuses b ReadService.Refused psus chargers kind device detail =
     record { lowest = lowest _ refl; turned-back = λ z. refl; accepted = λ e. absurd (omega (arith, e)) }
-open-refuses b (ReadService.Read s) psus chargers kind device detail = go (rows .ok)
-  where
-    rows : Rows
-    rows = rowsIn (s .registration) psus chargers
-
-    n : ℕ
-    n = firstRefused (openRefusals s kind device detail)
-
-    x : Stepped
-    x = cond (eqb kind 5) (stepped (Step.Closed Result.Ok) s) (openedOf s device (eventOf kind detail) (rows .records))
-
-    go : (t : Bool) → Refuses ((false, 21) ∷ (not t, 22) ∷ openRefusals s kind device detail)
-        (cond t (steppedCall b (openOf s kind device detail (rows .records))) (refusedCall 22 b) .number)
-    go true =
-        let l = opened-low b s kind device detail (rows .records) (eqb kind 5) in
-        record { lowest = lowest _ refl; turned-back = back-at b s n x l (eqb n 0) refl; accepted = free-at b s n x l (eqb n 0) refl }
-    go false = record { lowest = lowest _ refl; turned-back = λ z. refl; accepted = λ e. absurd (omega (arith, e)) }
+open-refuses b (ReadService.Read s) psus chargers kind device detail =
+    step-refuses b s psus chargers (openRefusals s kind device detail)
+    (λ r. cond (eqb kind 5) (stepped (Step.Closed Result.Ok) s) (openedOf s device (eventOf kind detail) r))
+    (λ t. lowest _ refl) (λ r. opened-low b s kind device detail r (eqb kind 5))
 
 answered-low : (b : List ℕ) (s : Service) (o : Order) (a : Result) (r : Records) → steppedCall b (answeredBy s o a r) .number % 256 ≡ 0 → ⊥
 answered-low b s o a r e =
@@ -96,23 +100,9 @@ answer-refuses : (b : List ℕ) (r : ReadService) (psus chargers : List ℕ) (a 
     → Refuses (ofImage r (λ s. ofRecords s psus chargers (answerRefusals s a))) (onService b r psus chargers (λ s x. answerOf s a x) .number)
 answer-refuses b ReadService.Refused psus chargers a =
     record { lowest = lowest _ refl; turned-back = λ z. refl; accepted = λ e. absurd (omega (arith, e)) }
-answer-refuses b (ReadService.Read s) psus chargers a = go (rows .ok)
-  where
-    rows : Rows
-    rows = rowsIn (s .registration) psus chargers
-
-    n : ℕ
-    n = firstRefused (answerRefusals s a)
-
-    x : Stepped
-    x = answeredBy s (orderIn (orderOf (s .phase))) (resultOf a) (rows .records)
-
-    go : (t : Bool) → Refuses ((false, 21) ∷ (not t, 22) ∷ answerRefusals s a)
-        (cond t (steppedCall b (answerOf s a (rows .records))) (refusedCall 22 b) .number)
-    go true =
-        let l = answered-low b s (orderIn (orderOf (s .phase))) (resultOf a) (rows .records) in
-        record { lowest = lowest _ refl; turned-back = back-at b s n x l (eqb n 0) refl; accepted = free-at b s n x l (eqb n 0) refl }
-    go false = record { lowest = lowest _ refl; turned-back = λ z. refl; accepted = λ e. absurd (omega (arith, e)) }
+answer-refuses b (ReadService.Read s) psus chargers a =
+    step-refuses b s psus chargers (answerRefusals s a) (λ r. answeredBy s (orderIn (orderOf (s .phase))) (resultOf a) r)
+    (λ t. lowest _ refl) (λ r. answered-low b s (orderIn (orderOf (s .phase))) (resultOf a) r)
 
 -- order
 

@@ -11,8 +11,7 @@ use Rattle.follower.specs.Follower.{showing}
 use Rattle.follower.specs.declared.held.Held.{Held}
 use Rattle.follower_image.specs.Image.{ImageOf}
 use Rattle.follower_image.proofs.OneImage.{fits}
-use Rattle.follower_in_place.specs.Turned.{mostOf}
-use Rattle.follower_in_place.proofs.Turns.{most-start, most-next, most-greatest}
+use Rattle.follower_in_place.proofs.Turns.{mostOf, most-start, most-next, most-greatest}
 use borrow.Author.Needs.{needs}
 use Rattle.follower_in_place.proofs.turn.greatest.Statement.{statement}
 use Rattle.follower_in_place.proofs.turn.greatest.Tie as tie
