@@ -83,7 +83,7 @@ static uint32_t perform(uint64_t order)
         printf("  order: detach, charger %u\n", device);
         return charger_answer;
     default:
-        printf("  order: wait %d ms\n", POWER_POLICY_WAIT_MS);
+        printf("  order: wait %u ms\n", power_policy_order_wait_ms(order));
         return POWER_POLICY_ANSWER_DONE;
     }
 }
@@ -142,11 +142,12 @@ static void run_event(const char *what, uint32_t kind, uint32_t port)
         reply = check(power_policy_answer(service, sizeof service, psus[0], sizeof psus, chargers[0], sizeof chargers, answer));
     }
     if (power_policy_closed_answer(reply) == POWER_POLICY_ANSWER_DONE)
-        printf("  closed: done\n");
+        printf("  closed: done");
     else if (power_policy_closed_expected(reply) == 0)
-        printf("  closed: error %u\n", power_policy_closed_answer(reply));
+        printf("  closed: error %u", power_policy_closed_answer(reply));
     else
-        printf("  closed: expected 0x%x, actual %u\n", power_policy_closed_expected(reply), power_policy_closed_actual(reply));
+        printf("  closed: expected 0x%x, actual %u", power_policy_closed_expected(reply), power_policy_closed_actual(reply));
+    printf(", orders %u\n", power_policy_closed_orders(reply));
     take_packet();
 }
 

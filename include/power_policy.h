@@ -25,7 +25,7 @@ extern "C" {
 #define POWER_POLICY_PORTS 16
 #define POWER_POLICY_CHARGERS 8
 
-/* The milliseconds of a wait. */
+/* The milliseconds of a wait, which its order carries. */
 #define POWER_POLICY_WAIT_MS 800
 
 /* Outcomes: the low byte of a result. */
@@ -164,7 +164,8 @@ uint64_t power_policy_open(uint8_t *image, size_t image_len, const uint8_t *psus
 uint64_t power_policy_answer(uint8_t *image, size_t image_len, const uint8_t *psus, size_t psus_len, const uint8_t *chargers,
                              size_t chargers_len, uint32_t answer);
 
-/* Where the event stands: the order that waits for its answer, or the close of the last event. Refused: 21. */
+/* Where the event stands: the order that waits for its answer, or the close of the last PSU event (done, without orders, before
+ * event 1). Refused: 21. */
 uint64_t power_policy_order(const uint8_t *image, size_t image_len);
 
 /* Writes the packet of the event closed last; bytes of the buffer past it stay. Written. Refused: 21, 25, 27, 29. */
@@ -237,6 +238,12 @@ static inline unsigned power_policy_ma(uint64_t result)
     return (unsigned)(result >> 48 & 0xffff);
 }
 
+/* The milliseconds of a wait, POWER_POLICY_WAIT_MS. */
+static inline unsigned power_policy_order_wait_ms(uint64_t result)
+{
+    return (unsigned)(result >> 32 & 0xffff);
+}
+
 /* A close: its answer, */
 static inline unsigned power_policy_closed_answer(uint64_t result)
 {
@@ -249,10 +256,16 @@ static inline unsigned power_policy_closed_expected(uint64_t result)
     return power_policy_byte(result, 2);
 }
 
-/* and the actual state, if there are expected ones. */
+/* the actual state, if there are expected ones, */
 static inline unsigned power_policy_closed_actual(uint64_t result)
 {
     return power_policy_byte(result, 3);
+}
+
+/* and how many orders the event has given, 0 to 35, a failed one too; 0 for a charger's event. */
+static inline unsigned power_policy_closed_orders(uint64_t result)
+{
+    return power_policy_byte(result, 4);
 }
 
 /* The length of what was written. */

@@ -3,7 +3,9 @@
 
 Compares the C functions as they are written in four places: the Rattle source that exports them (crates/power_policy/src/lib.rt), the C header,
 the Rust crate's declarations, and the safe functions around these with what they hand on. Names, order, names and types of the arguments and the
-result's type must be equal. docs/STATE.md must name the same functions; header and Rust crate must have the same lengths and refusals.
+result's type must be equal. docs/STATE.md must name the same functions; header and Rust crate must have the same lengths and refusals. The
+milliseconds of a wait must be the same in header, Rust crate, the definition (crates/calls/specs/Numbers.antt) and the Rattle that an order's
+number is made by (crates/calls/src/numbers.rt).
 Then each text is changed in several ways, and each change must be found. Its last line is 'N passed, M failed'.
 """
 
@@ -170,6 +172,17 @@ def numbers(texts):
     return in_header, in_rust
 
 
+def waits(texts):
+    """The milliseconds of a wait, in each place as often as they are written there."""
+    places = (
+        ("the header", without_comments(texts["header"]), r"^#define POWER_POLICY_WAIT_MS (\d+)\s*$"),
+        ("the Rust crate", without_comments(texts["crate"]), r"^pub const WAIT_MILLIS: u64 = (\d+);"),
+        ("the definition", texts["definition"], r"^\s*waitMs\s*=\s*(\d+)\s*$"),
+        ("the Rattle const", without_comments(texts["numbers"]), r"^\s*(?:pub\s+)?const\s+WAIT_MS\s*:\s*u16\s*=\s*(\d+)\s*;"),
+    )
+    return {place: [int(value) for value in re.findall(pattern, text, flags=re.M)] for place, text, pattern in places}
+
+
 def differences(texts):
     """What differs between the places, as lines."""
     lists = {}
@@ -196,6 +209,9 @@ def differences(texts):
     in_header, in_rust = numbers(texts)
     if in_header != in_rust or len(in_header) != 22:
         found.append(f"numbers: the header {in_header}, the Rust crate {in_rust}")
+    millis = waits(texts)
+    if any(len(values) != 1 or values != millis["the header"] for values in millis.values()):
+        found.append(f"milliseconds of a wait: {millis}")
     return found
 
 
@@ -236,8 +252,20 @@ def changes(texts):
         ("ffi", "packet: *const u8", "packet: *mut u8"),
         ("ffi", "            kind,\n            device,\n", "            device,\n            kind,\n"),
         ("state", "| `power_policy_order` |", "| `power_policy_orders` |"),
+        ("header", "POWER_POLICY_WAIT_MS 800", "POWER_POLICY_WAIT_MS 801"),
+        ("crate", "WAIT_MILLIS: u64 = 800", "WAIT_MILLIS: u64 = 8000"),
+        ("definition", "waitMs = 800", "waitMs = 80"),
+        ("definition", "waitMs = 800", "waitsMs = 800"),
+        ("definition", "waitMs = 800", "waitMs = 800\nwaitMs = 800"),
+        ("numbers", "WAIT_MS: u16 = 800", "WAIT_MS: u16 = 799"),
+        ("numbers", "WAIT_MS: u16 = 800", "WAIT_MS: u8 = 800"),
+        ("numbers", "const WAIT_MS: u16 = 800", "// const WAIT_MS: u16 = 800"),
     ):
         yield from change(place, old, new)
+    both = dict(texts)
+    for place in ("header", "crate"):
+        both[place] = texts[place].replace(" 800", " 801")
+    yield "header and crate: a wait of 801 milliseconds", both
 
 
 def main():
@@ -250,6 +278,8 @@ def main():
         "record": ROOT / "rust/power_policy/src/record.rs",
         "reply": ROOT / "rust/power_policy/src/reply.rs",
         "state": ROOT / "docs/STATE.md",
+        "definition": ROOT / "crates/calls/specs/Numbers.antt",
+        "numbers": ROOT / "crates/calls/src/numbers.rt",
     }
     missing = [str(path) for path in files.values() if not path.is_file()]
     if missing:

@@ -61,7 +61,7 @@ fn refused(service: Service) -> Stepped {
 
 fn begun(service: Service) -> Stepped {
     Stepped {
-        step: Step::Closed(psu::Result::Ok),
+        step: Step::Closed(psu::Result::Ok, 0),
         service,
     }
 }
@@ -205,7 +205,7 @@ fn agrees(letter: u8, kind: u8, step: Step, orders: u8, memory: Memory) -> bool 
 
 fn is_started(step: Step) -> bool {
     match step {
-        Step::Closed(_) => true,
+        Step::Closed(_, _) => true,
         Step::Order(_) => false,
         Step::Refused(_) => false,
     }
@@ -228,7 +228,9 @@ fn compare(step: Step, orders: u8, memory: Memory) -> bool {
     match step {
         Step::Refused(_) => false,
         Step::Order(order) => order_agrees(&v, order),
-        Step::Closed(answer) => close_agrees(&v, answer, orders, memory),
+        Step::Closed(answer, given) => {
+            given == orders && close_agrees(&v, answer, orders, memory)
+        }
     }
 }
 

@@ -41,12 +41,12 @@ pub record Lowest (l : List (Bool × ℕ)) (n : ℕ) : Type 0 where
 
 -- start
 
--- a figure is over its Rust type: no configuration could be read
+-- no configuration could be read: a figure is over its Rust type, or the presence of a minimum is neither 0 nor 1
 abbrev pub overType : OptionConfig → Bool
 overType OptionConfig.None = true
 overType (OptionConfig.Some c) = false
 
--- over 16 ports or 8 chargers, or a configuration figure over its Rust type
+-- over 16 ports or 8 chargers, or no configuration
 abbrev pub overRegistered : OptionConfig → ℕ → ℕ → Bool
 overRegistered config ports chargers = ltb 16 ports || (ltb 8 chargers || overType config)
 

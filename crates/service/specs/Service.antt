@@ -74,9 +74,9 @@ answerIn (Phase.Switching l p f new) = Result.Ok
 answerIn (Phase.Connecting s new) = Result.Ok
 answerIn (Phase.Providing p c) = Result.Ok
 
--- a close gives the event its number
+-- a close gives the event its number, and tells how many orders it has given
 abbrev pub closedBy : Registration → ℕ → ℕ → Turn → Stepped
-closedBy g n k t = stepped (Step.Closed (answerIn (t .phase))) (serviceWith g (increment 4294967295 n) k t)
+closedBy g n k t = stepped (Step.Closed (answerIn (t .phase)) k) (serviceWith g (increment 4294967295 n) k t)
 
 -- an order counts
 abbrev pub orderedBy : Registration → ℕ → ℕ → Turn → Order → Stepped
@@ -121,11 +121,11 @@ clearedOf s = remember (s .memory .state) noNotices
 abbrev pub openedOf : Service → ℕ → EventData → Records → Stepped
 openedOf s port e r = moved (s .registration) (s .number) 0 (processOf (s .registration) (clearedOf s) port e r)
 
--- a charger's event (kind 5) changes nothing and has no number
+-- a charger's event (kind 5) changes nothing, has no number and gives no order
 abbrev pub openOf : Service → ℕ → ℕ → ℕ → Records → Stepped
 openOf s kind device detail r =
     let n : ℕ = firstRefused (openRefusals s kind device detail) in
-    cond (eqb n 0) (cond (eqb kind 5) (stepped (Step.Closed Result.Ok) s) (openedOf s device (eventOf kind detail) r))
+    cond (eqb n 0) (cond (eqb kind 5) (stepped (Step.Closed Result.Ok 0) s) (openedOf s device (eventOf kind detail) r))
     (refused n s)
 
 -- answer

@@ -40,8 +40,8 @@ pub struct Service {
 pub enum Step {
     // An order, which the next answer is to.
     Order(Order),
-    // The event is closed with this answer.
-    Closed(psu::Result),
+    // The event is closed with this answer, after so many orders.
+    Closed(psu::Result, u8),
     // The call is turned back by the condition of this number.
     Refused(u8),
 }
@@ -204,7 +204,7 @@ fn closed(registration: Registration, number: u32, orders: u8, turn: Turn) -> St
     let phase = turn.phase;
     let service = service_with(registration, next_number(number), orders, turn);
     Stepped {
-        step: Step::Closed(answer_in(phase)),
+        step: Step::Closed(answer_in(phase), orders),
         service,
     }
 }
@@ -297,7 +297,7 @@ impl Service {
         }
         if kind == 5 {
             return Stepped {
-                step: Step::Closed(psu::Result::Ok),
+                step: Step::Closed(psu::Result::Ok, 0),
                 service: self,
             };
         }

@@ -19,7 +19,8 @@ ghost use mathlib.Core.Path.{_≡_};
 ghost use Rattle.event.specs.Phase.{orderOf};
 ghost use Rattle.service_image.specs.Image.{serviceFrom};
 ghost use Rattle.service.specs.Service.{openOf, answerOf};
-ghost use Rattle.calls.specs.Calls.{startedCall, startCall, rowsIn, steppedCall, withRows, onService, openCall, answerCall, standNumber, orderCall, writtenAs, packetCall, pictureCall, writePacketCall, writePictureCall};
+ghost use Rattle.calls.specs.Lent.{rowsIn, writtenAs, packetCall, pictureCall};
+ghost use Rattle.calls.specs.Calls.{startedCall, startCall, steppedCall, withRows, onService, openCall, answerCall, standNumber, orderCall, writePacketCall, writePictureCall};
 
 // Writes the image of the service after a call that is not turned back.
 fn store(image: &mut [u8], stepped: Stepped) -> u64
@@ -33,9 +34,9 @@ fn store(image: &mut [u8], stepped: Stepped) -> u64
             service_image::write(image, service);
             numbers::order(o)
         }
-        Step::Closed(answer) => {
+        Step::Closed(answer, orders) => {
             service_image::write(image, service);
-            numbers::closed(answer)
+            numbers::closed(answer, orders)
         }
         Step::Refused(number) => numbers::refused(number),
     }
@@ -161,12 +162,12 @@ pub fn start(image: &mut [u8], config: OptionConfig, ports: u32, chargers: u32) 
     store_started(image, started)
 }
 
-// The order of a phase, or how it closed.
-fn stand_at(order: OptionOrder, phase: Phase) -> u64
-    ensures { λ r. ⌜ r ≡ standNumber order phase ⌝ }
+// The order of a phase, or how it closed and after how many orders.
+fn stand_at(order: OptionOrder, phase: Phase, orders: u8) -> u64
+    ensures { λ r. ⌜ r ≡ standNumber order phase orders ⌝ }
 {
     match order {
-        OptionOrder::None => numbers::closed(answer_in(phase)),
+        OptionOrder::None => numbers::closed(answer_in(phase), orders),
         OptionOrder::Some(o) => numbers::order(o),
     }
 }
@@ -178,7 +179,7 @@ fn order_on(read: ReadService) -> u64
         ReadService::Refused => numbers::refused(21),
         ReadService::Read(service) => {
             let phase = service.phase;
-            stand_at(phase.order(), phase)
+            stand_at(phase.order(), phase, service.orders)
         }
     }
 }

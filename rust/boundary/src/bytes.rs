@@ -5,6 +5,8 @@ pub const FOLLOWER_IMAGE: usize = 241;
 pub const PSU_RECORD: usize = 18;
 pub const CHARGER_RECORD: usize = 7;
 pub const BUFFER: usize = 64;
+/// The milliseconds of a wait.
+pub const WAIT_MILLIS: u16 = 800;
 
 pub type Capability = [u8; 5];
 

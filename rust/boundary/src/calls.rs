@@ -2,6 +2,8 @@
 
 use std::sync::atomic::{AtomicUsize, Ordering};
 
+use crate::bytes::WAIT_MILLIS;
+
 /// The eleven functions, on slices.
 pub trait Calls {
     #[allow(clippy::too_many_arguments)]
@@ -318,6 +320,12 @@ fn can_give(call: &Call, result: u64) -> bool {
         Call::FollowerConsumer => (&[6], &[21]),
         Call::FollowerTracked => (&[7], &[21]),
     };
+    // An opening that closes has given no order, and whatever is answered is one.
+    let orders = match call {
+        Call::Open { .. } => 0..=0,
+        Call::Answer { .. } => 1..=35,
+        _ => 0..=35,
+    };
     let [outcome, a, b, c, ..] = bytes;
     if outcome == 0 {
         return refusals.contains(&a) && rest_is_zero(2);
@@ -329,7 +337,7 @@ fn can_give(call: &Call, result: u64) -> bool {
                 5 => b < 8 && c <= 13,
                 0 => b < 16 && rest_is_zero(3),
                 3 | 4 | 6 => b < 8 && rest_is_zero(3),
-                7 => rest_is_zero(2),
+                7 => (b, c) == (0, 0) && result >> 32 == WAIT_MILLIS.into(),
                 _ => false,
             },
             2 => {
@@ -338,7 +346,8 @@ fn can_give(call: &Call, result: u64) -> bool {
                     && c <= 3
                     && (a == 4 || b == 0)
                     && (b != 0 || c == 0)
-                    && rest_is_zero(4)
+                    && orders.contains(&bytes[4])
+                    && rest_is_zero(5)
             }
             3 => a <= 64 && rest_is_zero(2),
             4 => rest_is_zero(1),

@@ -1,10 +1,11 @@
 //! Runs of the original Rust, made again through the functions under test.
 //!
 //! The program `oracle` (rust/oracle) runs the original one device order at a time and writes what it does as a stream; the layout is in
-//! its src/stream.rs. Each opening and answer is made here with the same records. Compared are each order; each close with its expected
-//! and actual states; the packet, byte by byte, so the notices, their order and the number of orders; the picture and the whole image at the
-//! close, so all that is held, the power state too; and what two followers show, one that takes each packet at once and one
-//! that takes up to eight in the wrong order.
+//! its src/stream.rs. Each opening and answer is made here with the same records. Compared are each order, a wait with the milliseconds that
+//! the driver demands of the original's timer; each close with its expected and actual states and the number of orders that the driver
+//! was given, also where a charger's event has come after it; the packet, byte by byte, so the notices, their order and the number of
+//! orders; the picture and the whole image at the close, so all that is held, the power state too; and what two followers show, one that
+//! takes each packet at once and one that takes up to eight in the wrong order.
 
 use std::{
     env,
@@ -20,6 +21,8 @@ use crate::{
 };
 
 const OUTCOME: usize = 64;
+/// A wait in the stream.
+const WAIT: u8 = 8;
 
 fn oracle() -> PathBuf {
     if let Some(path) = env::var_os("POWER_POLICY_ORACLE") {
@@ -60,6 +63,7 @@ pub fn run(report: &mut Report, calls: &dyn Calls, arguments: &[&str]) {
     }
     let demanded = [
         "order",
+        "wait",
         "close",
         "packet",
         "picture",
@@ -80,6 +84,8 @@ struct Run {
     number: u32,
     /// The open event's kind.
     kind: u8,
+    /// The close of the last numbered event, by the original; that of a fresh service before event 1.
+    closed: u64,
     follower: Vec<u8>,
     late: Vec<u8>,
     /// Packets that the late follower has not been handed, and whether one has an error.
@@ -117,7 +123,7 @@ impl<'a> Close<'a> {
 
     fn result(&self) -> u64 {
         let [answer, expected, actual] = self.answer;
-        u64::from(u32::from_le_bytes([2, answer, expected, actual]))
+        u64::from_le_bytes([2, answer, expected, actual, self.orders, 0, 0, 0])
     }
 
     fn tracked(&self) -> &[u8] {
@@ -338,6 +344,7 @@ impl<R: Read> Replay<'_, R> {
             image: started.image,
             number: 0,
             kind: 0,
+            closed: 2,
             late: follower.clone(),
             follower,
             kept: Vec::new(),
@@ -355,7 +362,12 @@ impl<R: Read> Replay<'_, R> {
         let close = match outcome[0] {
             1 => {
                 let o = &outcome;
-                let wanted = u64::from_le_bytes([1, o[1] - 1, o[2], o[7], o[3], o[4], o[5], o[6]]);
+                let [mut v0, mut v1] = [o[3], o[4]];
+                if o[1] == WAIT {
+                    [v0, v1] = WAIT_MILLIS.to_le_bytes();
+                    self.report.count("wait");
+                }
+                let wanted = u64::from_le_bytes([1, o[1] - 1, o[2], o[7], v0, v1, o[5], o[6]]);
                 let result = equal(after.result, wanted, show_number);
                 self.report.check("order", result.map_err(case));
                 None
@@ -372,11 +384,13 @@ impl<R: Read> Replay<'_, R> {
         self.present()?.image = after.image.clone();
         match close {
             Some(_) if !is_numbered => {
-                let result = equal(after.image, before.clone(), show_bytes);
+                let result = equal(after.image.clone(), before.clone(), show_bytes);
                 self.report.check("charger event", result.map_err(case));
-                Ok(())
+                let closed = self.present()?.closed;
+                self.stands(&after.image, closed)
             }
             Some(close) => {
+                self.present()?.closed = close.result();
                 self.stands(&after.image, after.result)?;
                 self.closed(&close, &case)
             }

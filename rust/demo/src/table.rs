@@ -150,17 +150,17 @@ impl World {
     /// Runs the event to its close: how it closed, and its packet if it has a number.
     fn event(&mut self, event: Event) -> Result<(String, Option<Letter>), Error> {
         let outcome = now(run_event(&mut self.service, &mut self.console, event))?;
-        let closed = match outcome {
-            Outcome::Done => "done".to_string(),
-            Outcome::Failed(error) => format!("{error:?}"),
-            Outcome::WrongState { .. } => "bad state".to_string(),
+        let closed = match outcome.end {
+            End::Done => "done".to_string(),
+            End::Failed(error) => format!("{error:?}"),
+            End::WrongState { .. } => "bad state".to_string(),
         };
         self.counts.events += 1;
         if matches!(event, Event::Charger { .. }) {
             return Ok((closed, None));
         }
         let (number, held) = Display::held(&self.service);
-        self.history.close(held, outcome != Outcome::Done);
+        self.history.close(held, outcome.end != End::Done);
         self.counts.packets += 1;
         let mut buffer = [0; BUFFER];
         let length = self.service.write_packet(&mut buffer)?;

@@ -91,7 +91,7 @@ pub fn open(
             return Err(Refusal::Open);
         }
         if event == Event::Charger {
-            return Ok(reply::closed(0, 0, 0));
+            return Ok(reply::closed(0, 0, 0, 0));
         }
         if service.number == u32::MAX {
             return Err(Refusal::LastNumber);

@@ -48,13 +48,22 @@ pub enum Order {
 
 pub const DONE: u64 = 4;
 
+/// The milliseconds of a wait.
+const WAIT_MILLIS: u16 = 800;
+
+/// An order, of which a wait has its milliseconds where the others have mV.
 pub fn order(order: Order, device: u8, capability: Capability) -> u64 {
     let Capability { mv, ma, flags } = capability;
+    let mv = if order == Order::Wait {
+        WAIT_MILLIS
+    } else {
+        mv
+    };
     fields([1, order as u8, device, flags], mv, ma)
 }
 
-pub fn closed(answer: u8, expected: u8, actual: u8) -> u64 {
-    fields([2, answer, expected, actual], 0, 0)
+pub fn closed(answer: u8, expected: u8, actual: u8, orders: u8) -> u64 {
+    fields([2, answer, expected, actual], orders.into(), 0)
 }
 
 pub fn written(length: usize) -> u64 {

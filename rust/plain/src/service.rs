@@ -520,7 +520,7 @@ impl Service {
                 answer,
                 expected,
                 actual,
-            } => return reply::closed(answer, expected, actual),
+            } => return reply::closed(answer, expected, actual, self.orders),
             Phase::Connecting {
                 stage: Stage::Psu | Stage::Attaching,
                 new: contract,

@@ -3,6 +3,7 @@
 const IMAGE: usize = plain::SERVICE_IMAGE;
 
 const DONE: u64 = 4;
+/// Without an order.
 const CLOSED: u64 = 2;
 
 fn refused(number: u64) -> u64 {
@@ -11,6 +12,11 @@ fn refused(number: u64) -> u64 {
 
 fn order(kind: u64, device: u64, mv: u64, ma: u64, flags: u64) -> u64 {
     1 | kind << 8 | device << 16 | flags << 24 | mv << 32 | ma << 48
+}
+
+/// Closed after so many orders.
+fn closed(answer: u64, orders: u64) -> u64 {
+    CLOSED | answer << 8 | orders << 32
 }
 
 fn capability(mv: u16, ma: u16, flags: u8) -> [u8; 5] {
@@ -173,8 +179,8 @@ fn p4_equal_milliwatts() {
     let mut run = Run::start(&psus, &[], None);
     run.set(&[psus[1], psus[1], psus[2]]);
     assert_eq!(run.open(1, 1, 0), order(1, 2, 15000, 1000, 0));
-    assert_eq!(run.answer(0), order(7, 0, 0, 0, 0));
-    assert_eq!(run.answer(0), CLOSED);
+    assert_eq!(run.answer(0), order(7, 0, 800, 0, 0));
+    assert_eq!(run.answer(0), closed(0, 2));
     run.set(&psus);
     // Port 2 stays, though it has since gone Idle.
     assert_eq!(run.open(1, 1, 0), CLOSED);
@@ -204,7 +210,7 @@ fn p5_total() {
 fn p6_lone_request() {
     let mut run = Run::start(&[Psu::idle().requests(15000, 1000, 4)], &[], None);
     assert_eq!(run.open(2, 0, 9), order(2, 0, 5000, 3000, 4));
-    assert_eq!(run.answer(0), CLOSED);
+    assert_eq!(run.answer(0), closed(0, 1));
     assert_eq!(
         run.packet(),
         [1, 1, 0, 1, 1, 4, 0, 0x88, 0x27, 0xB8, 0x17, 4]
@@ -240,7 +246,7 @@ fn p10_fifth_provider() {
     let mut run = Run::start(&[Psu::idle().requests(5000, 100, 2); 5], &[], None);
     for port in 0..5 {
         assert_eq!(run.open(2, port, 0), order(2, port.into(), 5000, 100, 2));
-        assert_eq!(run.answer(0), CLOSED);
+        assert_eq!(run.answer(0), closed(0, 1));
         let number = port as u8 + 1;
         let notice = [4, port as u8, 0x88, 0x27, 0x64, 2];
         assert_eq!(
@@ -312,7 +318,7 @@ fn a_whole_update() {
     let first = Psu::idle().offers(5000, 3000, 3);
     let mut run = Run::start(&[first, Psu::idle()], &[1, 0], None);
     assert_eq!(run.open(1, 0, 0), order(1, 0, 5000, 3000, 3));
-    assert_eq!(run.answer(0), order(7, 0, 0, 0, 0));
+    assert_eq!(run.answer(0), order(7, 0, 800, 0, 0));
     for failed in [1, 9, 10] {
         assert_eq!(
             plain::answer(&mut run.image, &run.psus, &run.chargers, failed),
@@ -323,7 +329,7 @@ fn a_whole_update() {
     assert_eq!(run.answer(0), order(3, 1, 0, 0, 0));
     assert_eq!(run.answer(0), order(4, 1, 0, 0, 0));
     assert_eq!(run.answer(0), order(5, 1, 5000, 3000, 3));
-    assert_eq!(run.answer(0), CLOSED);
+    assert_eq!(run.answer(0), closed(0, 6));
     let connected = [2, 0, 0x88, 0x27, 0xB8, 0x17, 3];
     let head = [1, 1, 0, 6, 2];
     assert_eq!(run.packet(), [&head[..], &connected, &[5, 1, 1]].concat());
@@ -341,7 +347,7 @@ fn a_whole_update() {
     );
     assert_eq!(run.answer(0), order(6, 0, 0, 0, 0));
     assert_eq!(run.answer(0), order(1, 1, 20000, 3000, 4));
-    assert_eq!(run.answer(8), CLOSED | 8 << 8);
+    assert_eq!(run.answer(8), closed(8, 3));
     // The error ends it: a notice of the old consumer, none of the figures.
     assert_eq!(run.packet(), [1, 2, 8, 3, 1, 1, 0, 6]);
     assert_eq!(run.picture(), [2, 2, 0, 1, 1, 0]);
@@ -352,21 +358,25 @@ fn a_consumer_that_leaves() {
     let offer = Psu::idle().offers(5000, 3000, 3);
     let mut run = Run::start(&[offer], &[1, 0, 3], None);
     let mut result = run.open(1, 0, 0);
-    while result != CLOSED {
+    while result as u8 == 1 {
         result = run.answer(0);
     }
     run.set(&[Psu::detached()]);
     assert_eq!(run.open(4, 0, 0), order(6, 0, 0, 0, 0));
     assert_eq!(run.answer(0), order(6, 2, 0, 0, 0));
     assert_eq!(run.image[36..47], [2, 1, 2, 0, 1, 0, 0, 0, 0, 0, 0]);
-    assert_eq!(run.answer(9), CLOSED | 9 << 8);
+    assert_eq!(run.answer(9), closed(9, 2));
     // The consumer is still there: the error came before it was dropped.
     assert_eq!(run.image[24..31], [1, 0, 0x88, 0x13, 0xB8, 0x0B, 3]);
     assert_eq!(run.packet(), [1, 2, 9, 2, 0]);
     assert_eq!(run.open(1, 0, 0), order(6, 0, 0, 0, 0));
     assert_eq!(run.answer(0), order(6, 2, 0, 0, 0));
-    assert_eq!(run.answer(0), CLOSED);
+    assert_eq!(run.answer(0), closed(0, 2));
     assert_eq!(run.packet(), [1, 3, 0, 2, 2, 1, 0, 0, 5, 0, 0]);
+    // A charger's event has no orders, and does not hide those of the event before it.
+    let result = plain::open(&mut run.image, &run.psus, &run.chargers, 5, 0, 0);
+    assert_eq!(result, CLOSED);
+    assert_eq!(plain::order(&run.image), closed(0, 2));
 }
 
 #[test]

@@ -158,16 +158,18 @@ impl World {
     /// An event from its opening to its close, and the desk's take of its packet.
     fn event(&mut self, what: &str, event: Event) -> Result<(), Error> {
         println!("{what}");
-        match now(run_event(&mut self.service, &mut self.console, event))? {
-            Outcome::Done => println!("  closed: done"),
-            Outcome::Failed(error) => println!("  closed: error {}", error as u8),
-            Outcome::WrongState { expected, actual } => {
-                println!(
+        let outcome = now(run_event(&mut self.service, &mut self.console, event))?;
+        match outcome.end {
+            End::Done => print!("  closed: done"),
+            End::Failed(error) => print!("  closed: error {}", error as u8),
+            End::WrongState { expected, actual } => {
+                print!(
                     "  closed: expected {:#x}, actual {}",
                     expected.0, actual as u8
                 );
             }
         }
+        println!(", orders {}", outcome.orders);
         let mut buffer = [0; BUFFER];
         let length = self.service.write_packet(&mut buffer)?;
         take(&mut self.follower, "packet", &buffer[..length])

@@ -4,7 +4,7 @@ use core::future::Future;
 
 use crate::{
     Answer, ChargerError, ConsumerPowerCapability, Error, Event, Order, Outcome,
-    ProviderPowerCapability, PsuError, Records, Reply, Service, WAIT_MILLIS,
+    ProviderPowerCapability, PsuError, Records, Reply, Service,
 };
 
 /// The ports and chargers of a console, by their numbers. The methods are those of the original's `Psu` and `Charger`, which
@@ -36,7 +36,7 @@ pub trait Devices {
     ) -> impl Future<Output = Result<(), ChargerError>>;
     /// A consumer is disconnected.
     fn detach_handler(&mut self, charger: u8) -> impl Future<Output = Result<(), ChargerError>>;
-    /// Waits. It does not fail.
+    /// Waits as long as the order says. It does not fail.
     fn wait(&mut self, millis: u64) -> impl Future<Output = ()>;
     /// The present records of all ports and chargers. Those that are not set are Detached and Unpowered.
     fn records(&self, records: &mut Records);
@@ -82,8 +82,8 @@ async fn perform(devices: &mut impl Devices, order: Order) -> Answer {
             capability,
         } => devices.attach_handler(charger, capability).await.into(),
         Order::Detach { charger } => devices.detach_handler(charger).await.into(),
-        Order::Wait => {
-            devices.wait(WAIT_MILLIS).await;
+        Order::Wait { millis } => {
+            devices.wait(millis.into()).await;
             Answer::Done
         }
     }

@@ -20,7 +20,7 @@ pub use capability::{
 pub use device::{Devices, run_event};
 pub use record::{CHARGER_RECORD, Charger, ChargerState, PSU_RECORD, Psu, PsuState, Records};
 pub use reply::{
-    Answer, ChargerError, Consumer, Error, Figures, Order, Outcome, PsuError, Refusal, Reply,
+    Answer, ChargerError, Consumer, End, Error, Figures, Order, Outcome, PsuError, Refusal, Reply,
     Shown, StateKind, StateSet, Tracked,
 };
 
@@ -34,7 +34,7 @@ pub const SERVICE_IMAGE: usize = 67;
 pub const FOLLOWER_IMAGE: usize = 241;
 /// The length of a buffer that any packet or picture fits in.
 pub const BUFFER: usize = 64;
-/// The milliseconds of a wait.
+/// The milliseconds of a wait, which its order carries.
 pub const WAIT_MILLIS: u64 = 800;
 
 /// What the policy is set to.
@@ -172,7 +172,7 @@ impl Service {
         reply::reply(ffi::answer(&mut self.0, psus, chargers, answer.number()))
     }
 
-    /// Where the event stands: the order that waits, or the last close. Refused: 21.
+    /// Where the event stands: the order that waits, or the close of the last PSU event. Refused: 21.
     pub fn order(&self) -> Result<Reply, Error> {
         reply::reply(ffi::order(&self.0))
     }

@@ -182,8 +182,10 @@ pub enum Order {
     Detach {
         charger: u8,
     },
-    /// [`crate::WAIT_MILLIS`] milliseconds.
-    Wait,
+    Wait {
+        /// [`crate::WAIT_MILLIS`].
+        millis: u16,
+    },
 }
 
 /// The kinds of a PSU's states.
@@ -217,9 +219,17 @@ impl StateSet {
     }
 }
 
+/// How an event closed.
+#[derive(Clone, Copy, Debug, PartialEq, Eq)]
+pub struct Outcome {
+    pub end: End,
+    /// How many orders the event has given, 0 to 35, a failed one too; 0 for a charger's event.
+    pub orders: u8,
+}
+
 /// How an event ended.
 #[derive(Clone, Copy, Debug, PartialEq, Eq)]
-pub enum Outcome {
+pub enum End {
     Done,
     /// By the error of a device.
     Failed(PsuError),
@@ -325,27 +335,33 @@ fn order([kind, device, flags]: [u8; 3], power: PowerCapability) -> Option<Order
             capability: consumer,
         },
         6 => Order::Detach { charger: device },
-        7 => Order::Wait,
+        7 => Order::Wait {
+            millis: power.voltage_mv,
+        },
         _ => return None,
     })
 }
 
-fn outcome([answer, expected, actual]: [u8; 3]) -> Option<Outcome> {
+fn end([answer, expected, actual]: [u8; 3]) -> Option<End> {
     match (answer, expected) {
-        (0, _) => Some(Outcome::Done),
-        (_, 0) => PsuError::from_number(answer).map(Outcome::Failed),
-        _ => StateKind::from_number(actual).map(|actual| Outcome::WrongState {
+        (0, _) => Some(End::Done),
+        (_, 0) => PsuError::from_number(answer).map(End::Failed),
+        _ => StateKind::from_number(actual).map(|actual| End::WrongState {
             expected: StateSet(expected),
             actual,
         }),
     }
 }
 
+fn outcome(close: [u8; 3], orders: u8) -> Option<Outcome> {
+    end(close).map(|end| Outcome { end, orders })
+}
+
 pub(crate) fn reply(result: u64) -> Result<Reply, Error> {
     let Parts([kind, a, b, c], power) = parts(result);
     let reply = match kind {
         1 => order([a, b, c], power).map(Reply::Order),
-        2 => outcome([a, b, c]).map(Reply::Closed),
+        2 => outcome([a, b, c], (result >> 32) as u8).map(Reply::Closed),
         _ => None,
     };
     reply.ok_or_else(|| error(result))
@@ -438,18 +454,19 @@ mod tests {
                 capability
             }))
         );
-        assert_eq!(reply(0x0701), Ok(Reply::Order(Order::Wait)));
+        let wait = Order::Wait { millis: 800 };
+        assert_eq!(reply(0x0320_0000_0701), Ok(Reply::Order(wait)));
         assert_eq!(reply(0x0801), Err(Error::Unknown(0x0801)));
-        assert_eq!(reply(0x02), Ok(Reply::Closed(Outcome::Done)));
-        assert_eq!(
-            reply(0x0402),
-            Ok(Reply::Closed(Outcome::Failed(PsuError::InvalidState)))
-        );
-        let wrong = Outcome::WrongState {
+        let closed = |end, orders| Ok(Reply::Closed(Outcome { end, orders }));
+        assert_eq!(reply(0x02), closed(End::Done, 0));
+        assert_eq!(reply(0x23_0000_0002), closed(End::Done, 35));
+        let failed = End::Failed(PsuError::InvalidState);
+        assert_eq!(reply(0x01_0000_0402), closed(failed, 1));
+        let wrong = End::WrongState {
             expected: StateSet(10),
             actual: StateKind::ConnectedProvider,
         };
-        assert_eq!(reply(0x020A_0402), Ok(Reply::Closed(wrong)));
+        assert_eq!(reply(0x03_020A_0402), closed(wrong, 3));
         assert!(StateSet(10).contains(StateKind::Idle));
         assert!(!StateSet(10).contains(StateKind::Detached));
         assert_eq!(reply(0x0B02), Err(Error::Unknown(0x0B02)));

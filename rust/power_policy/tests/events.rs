@@ -160,12 +160,16 @@ fn bench() -> (Service, Bench) {
 
 const UPDATED: Event = Event::UpdatedConsumerCapability { port: 0 };
 
+fn closed(end: End, orders: u8) -> Outcome {
+    Outcome { end, orders }
+}
+
 #[test]
 fn an_update() {
     let (mut service, mut bench) = bench();
     assert_eq!(
         now(run_event(&mut service, &mut bench, UPDATED)),
-        Ok(Outcome::Done)
+        Ok(closed(End::Done, 5))
     );
     let orders = [
         "consumer 0 [136, 19, 184, 11, 12]",
@@ -188,10 +192,31 @@ fn each_order_fails() {
         let (mut service, mut bench) = bench();
         bench.fails = fails;
         let outcome = now(run_event(&mut service, &mut bench, UPDATED));
-        assert_eq!(outcome, Ok(Outcome::Failed(error)));
+        let failed = closed(End::Failed(error), fails as u8);
+        assert_eq!(outcome, Ok(failed));
         assert_eq!(bench.orders.len(), fails);
-        assert_eq!(service.order(), Ok(Reply::Closed(Outcome::Failed(error))));
+        // A charger's event closes without orders, and the close before it still stands.
+        let event = Event::Charger {
+            charger: 0,
+            psu_state: ChargerPsuState::Attached,
+        };
+        let outcome = now(run_event(&mut service, &mut bench, event));
+        assert_eq!(outcome, Ok(closed(End::Done, 0)));
+        assert_eq!(service.order(), Ok(Reply::Closed(failed)));
     }
+}
+
+#[test]
+fn a_wait() {
+    let (mut service, bench) = bench();
+    assert_eq!(service.order(), Ok(Reply::Closed(closed(End::Done, 0))));
+    let mut records = Records::new(3, 1);
+    bench.records(&mut records);
+    service.open(UPDATED, &records).unwrap();
+    let Ok(Reply::Order(Order::Wait { millis })) = service.answer(Answer::Done, &records) else {
+        panic!("no wait");
+    };
+    assert_eq!(u64::from(millis), WAIT_MILLIS);
 }
 
 #[test]
@@ -200,15 +225,18 @@ fn a_request_and_a_wrong_state() {
     let request = Event::RequestedProviderCapability { port: 1 };
     assert_eq!(
         now(run_event(&mut service, &mut bench, request)),
-        Ok(Outcome::Done)
+        Ok(closed(End::Done, 1))
     );
     assert_eq!(bench.orders, ["provider 1 [136, 19, 184, 11, 0]"]);
     bench.psus[1].psu_state = PsuState::Detached;
-    let wrong = Outcome::WrongState {
+    let wrong = End::WrongState {
         expected: StateSet(6),
         actual: StateKind::Detached,
     };
-    assert_eq!(now(run_event(&mut service, &mut bench, request)), Ok(wrong));
+    assert_eq!(
+        now(run_event(&mut service, &mut bench, request)),
+        Ok(closed(wrong, 0))
+    );
 }
 
 #[test]

@@ -114,8 +114,10 @@ impl<const P: usize, const C: usize> Desk<'_, P, C> {
     fn closed(&self, result: Result<(), psu::Error>) {
         if let Some(results) = &self.results {
             let [answer, expected, actual] = record::result_to_bytes(&result);
-            let close = u32::from_le_bytes([2, answer, expected, actual]);
-            results.borrow_mut().push(close.into());
+            let mut results = results.borrow_mut();
+            let given = results.iter().rev().take_while(|one| **one as u8 == 1);
+            let close = [2, answer, expected, actual, given.count() as u8, 0, 0, 0];
+            results.push(u64::from_le_bytes(close));
         }
         let _ = black_box(result);
     }
@@ -123,6 +125,12 @@ impl<const P: usize, const C: usize> Desk<'_, P, C> {
 
 fn nothing(_: &()) -> [u8; 5] {
     [0; 5]
+}
+
+/// A wait's milliseconds stand where other orders have mV.
+fn wait_bytes(millis: &u64) -> [u8; 5] {
+    let [v0, v1] = u16::try_from(*millis).expect("a short wait").to_le_bytes();
+    [v0, v1, 0, 0, 0]
 }
 
 /// A device behind its lock.
@@ -317,8 +325,8 @@ impl<const P: usize, const C: usize> Loaded<P, C> {
                 match running.as_mut().poll(&mut context) {
                     Poll::Ready(result) => break result,
                     Poll::Pending => {
-                        assert_eq!(embassy_time::take_started(), Some(800), "the one wait");
-                        desk.order(7, 0, (), nothing);
+                        let millis = embassy_time::take_started().expect("the one wait");
+                        desk.order(7, 0, millis, wait_bytes);
                     }
                 }
             };
