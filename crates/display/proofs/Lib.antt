@@ -1,3 +1,5 @@
 pub mod Count
+pub mod OneBit
+pub mod Set
 pub mod Four
 pub mod Tracked

@@ -1,3 +1,4 @@
 pub mod Providers
+pub mod Set
 pub mod Display
 pub mod Notices

@@ -1,6 +1,6 @@
 -- The set of fixed capacity, from heapless's documentation: `insert` of a value that is there changes nothing, of a new one adds
--- it unless the set is full; `remove` says whether it was there. The values are ports 0 to 15, a bit each, and the capacity is 4; there is
--- never room for another number, which 23 and the reader keep out.
+-- it unless the set is full; `remove` says whether it was there. The values are ports 0 to 15, a bit each; there is never room for another
+-- number, which 23 and the reader keep out. Set.antt says the same over membership alone.
 use Prim.Native.Nat.{ℕ, zero, suc, _+_, _/_, _%_, _^_}
 use mathlib.Core.Bool.{Bool, true, false, cond, _&&_}
 use lib.Bits.{bitOr, bitXor}
@@ -9,6 +9,10 @@ use Rattle.display.specs.declared.providers.Providers.{Providers}
 use Rattle.display.specs.declared.providers.Insert.{Insert}
 use Rattle.display.specs.declared.providers.Inserted.{Inserted}
 use Rattle.display.specs.declared.providers.Removed.{Removed}
+
+-- the Rust's MAX_CONNECTED_PROVIDERS
+abbrev pub maxConnectedProviders : ℕ
+maxConnectedProviders = 4
 
 abbrev pub none : Providers
 none = record { mask = 0 }
@@ -27,9 +31,9 @@ ones m (suc n) = ones m n + bitAt m n
 abbrev pub len : Providers → ℕ
 len s = ones (s .mask) 16
 
--- there is room for a new port: it is one of the 16, and fewer than four are there
+-- there is room for a new port: it is one of the 16, and fewer than the capacity are there
 abbrev pub room : Providers → ℕ → Bool
-room s p = ltb p 16 && ltb (len s) 4
+room s p = ltb p 16 && ltb (len s) maxConnectedProviders
 
 abbrev pub insertOf : Providers → ℕ → Inserted
 insertOf s p =

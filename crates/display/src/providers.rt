@@ -2,6 +2,9 @@
 ghost use mathlib.Core.Path.{_≡_};
 ghost use Rattle.display.specs.Providers.{none, contains, len, insertOf, removeOf};
 
+// The most that are tracked at a time.
+pub const MAX_CONNECTED_PROVIDERS: u16 = 4;
+
 // A bit for each port, built and tested by shifts; at most four are set.
 pub struct Providers {
     pub mask: u16,
@@ -75,7 +78,7 @@ impl Providers {
                 providers: self,
             };
         }
-        if 4 <= self.len() {
+        if MAX_CONNECTED_PROVIDERS <= self.len() {
             return Inserted {
                 found: Insert::Full,
                 providers: self,

@@ -1,2 +1,4 @@
 pub mod Greatest
 pub mod Choice
+pub mod PairOrder
+pub mod TypeC

@@ -1,9 +1,6 @@
 -- The tests are the definition's.
 use mathlib.Core.Path.{sym, _∙_}
 use borrow.Author.Tests.{lt-ltb, le-ltb}
-use Prim.Native.Nat.{_≤_, _<_}
-use native.Mathlib.Omega.{arith}
-use Rattle.display.specs.Providers.{len}
 use Rattle.display.proofs.Count.{shifted}
 use borrow.Author.Needs.{needs}
 use Rattle.display.proofs.providers.Providers.insert.Statement.{statement}
@@ -23,7 +20,7 @@ len-requires c κs = search needs
 
 returns-3 : tie.Need-returns-3
 returns-3 c =
-    let h : 4 ≤ len (c .before .before .before .before .before .args .self) = rw (c .before .len .ensures) at (c .if3 .taken) in
+    let h = rw (c .before .len .ensures) at (c .if3 .taken) in
     rw (sym (c .before .before .before .before .contains .ensures) ∙ c .before .before .before .if1 .left, lt-ltb _ _ (c .before .before .if2 .left), le-ltb _ _ h)
 
 shl-t10 : tie.Need-shl-t10
@@ -31,7 +28,7 @@ shl-t10 c = search needs
 
 returns-4 : tie.Need-returns-4
 returns-4 c =
-    let h : len (c .before .before .before .before .before .before .args .self) < 4 = rw (c .before .before .len .ensures) at (c .before .if3 .left) in
+    let h = rw (c .before .before .len .ensures) at (c .before .if3 .left) in
     rw (shifted _ (c .before .before .before .if2 .left), sym (c .before .before .before .before .before .contains .ensures) ∙ c .before .before .before .before .if1 .left, lt-ltb _ _ (c .before .before .before .if2 .left), lt-ltb _ _ h)
 
 pub insert-spec : {M : Type 1} → statement M
