@@ -4,4 +4,6 @@ pub mod Follows
 pub mod Kept
 pub mod Bound
 pub mod Serves
+pub mod Logic
 pub mod Carries
+pub mod Chooses

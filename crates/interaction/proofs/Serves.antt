@@ -190,7 +190,7 @@ answers-follow (x ∷ l) g number before (suc n) (Phase.Providing p c) m le nb f
 -- what a call brings about is where the service then stands
 
 pub moved-brings : (g : Registration) (number given : ℕ) (p : Phase) (m : Memory) →
-    moved g number given (record { phase = p; memory = m }) .step ≡ brings (standsAt g p m)
+    moved g number given (record { phase = p; memory = m }) .step ≡ brings given (standsAt g p m)
 moved-brings g number given (Phase.Closed a) m = refl
 moved-brings g number given (Phase.Leaving i p f) m = refl
 moved-brings g number given (Phase.Switching l old f new) m = refl
@@ -250,12 +250,12 @@ counted-bound s kind device detail r l h o =
 
 -- opening brings about the event's first order, or its close
 pub open-brings : (s : Service) (kind device detail : ℕ) (r : Records) → Opens s kind device detail →
-    openOf s kind device detail r .step ≡ brings (eventAt s kind device detail r)
+    openOf s kind device detail r .step ≡ brings 0 (eventAt s kind device detail r)
 open-brings s kind device detail r o =
     let t = processOf (s .registration) (remember (s .memory .state) noNotices) device (eventOf kind detail) r in
     rw (opens s kind device detail r o)
     (moved-brings (s .registration) (s .number) 0 (t .phase) (t .memory)
-    ∙ ap brings (opened (s .registration) (s .memory .state) device (eventOf kind detail) r))
+    ∙ ap (brings 0) (opened (s .registration) (s .memory .state) device (eventOf kind detail) r))
 
 -- an event gives at most four notices
 

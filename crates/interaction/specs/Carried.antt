@@ -1,11 +1,10 @@
 -- That an event's notices lead from one display to the next.
 use mathlib.Core.Path.{_≡_}
-use Rattle.power_policy_interface.specs.declared.psu.Result.{Result}
 use Rattle.display.specs.Notices.{appliedAll}
 use Rattle.display.specs.declared.Display.{Display}
-use Rattle.event.specs.declared.memory.Records.{Records}
 use Rattle.send.specs.Send.{displayOf}
-use Rattle.interaction.specs.Action.{Held, Interaction, done, ask}
+use Rattle.interaction.specs.Action.{Held, Interaction}
+use Rattle.interaction.specs.Ends.{Ends}
 
 -- the notices so far lead from d to what is held
 abbrev pub Leads : Display → Held → Type 0
@@ -13,6 +12,4 @@ Leads d h = displayOf (h .state) ≡ appliedAll (h .notices) d
 
 -- wherever it closes without error, whatever is answered
 abbrev pub Carries : Display → Interaction → Type 0
-Carries d (done Result.Ok h) = Leads d h
-Carries d (done (Result.Err e) h) = Unit {0}
-Carries d (ask o k) = (a : Result) (r : Records) → Carries d (k a r)
+Carries d i = Ends (Leads d) i

@@ -48,10 +48,10 @@ AtMost n (done a h) = Unit {0}
 AtMost zero (ask o k) = ⊥
 AtMost (suc n) (ask o k) = (a : Result) (r : Records) → AtMost n (k a r)
 
--- what a call brings about when this is left: the order, or the close
-abbrev pub brings : Interaction → Step
-brings (done a h) = Step.Closed a
-brings (ask o k) = Step.Order o
+-- what a call brings about when this is left after n orders: the next order, or the close, which tells their number
+abbrev pub brings : ℕ → Interaction → Step
+brings n (done a h) = Step.Closed a n
+brings n (ask o k) = Step.Order o
 
 -- an event has its number when it closes
 abbrev pub numbered : ℕ → Interaction → ℕ

@@ -6,5 +6,6 @@ pub mod Returns
 pub mod Orders
 pub mod Rows
 pub mod Starts
+pub mod Chosen
 pub mod Linked
 pub mod Example

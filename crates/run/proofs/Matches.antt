@@ -10,7 +10,6 @@ use borrow.Author.Tests.{le-leb, leb-false, eqb-true, eqb-false}
 use Rattle.power_policy_interface.specs.declared.psu.Result.{Result}
 use Rattle.power_policy_interface.specs.declared.service.event.Event.{Event}
 use Rattle.display.specs.Notices.{appliedAll}
-use Rattle.display.specs.declared.Display.{Display}
 use Rattle.event.specs.Memory.{noNotices, freshState}
 use Rattle.event.specs.Phase.{orderOf, outcomeOf, switchOrder, connectOrder}
 use Rattle.event.specs.declared.memory.InternalState.{InternalState}
@@ -29,7 +28,7 @@ use Rattle.service.specs.declared.Service.{Service}
 use Rattle.service.specs.declared.Step.{Step}
 use Rattle.interaction.specs.Action.{Held, Interaction, done, ask}
 use Rattle.send.specs.Send.{displayOf}
-use Rattle.interaction.specs.Carried.{Carries}
+use Rattle.interaction.specs.Carried.{Leads, Carries}
 use Rattle.interaction.specs.Interaction.{close, event}
 use Rattle.interaction.specs.Machine.{heldOf, listed, rest, standsAt, standsFor, Fits}
 use Rattle.interaction.specs.Served.{AtMost, noAnswer}
@@ -37,6 +36,7 @@ use Rattle.interaction.proofs.Bound.{event-bound}
 use Rattle.interaction.proofs.Carries.{event-carries}
 use Rattle.interaction.proofs.Follows.{opened, leaving-answered, switching-answered, connecting-answered, providing-answered}
 use Rattle.interaction.proofs.Kept.{FitsTurn, opened-fits, answered-fits}
+use Rattle.interaction.proofs.Logic.{ends-ok}
 use Rattle.interaction.proofs.Serves.{service, serviceAt, closed-answer, open-answer, moved-to, last-not-refused, below}
 use Rattle.run.specs.Policy.{Call, openEvent, giveAnswer, writePacket, writePicture, between, Policy, proceeds, isAt, answers, policyAfter}
 use Rattle.run.specs.Run.{after}
@@ -120,14 +120,6 @@ nextHeld given (ask o k) held = held
 
 -- the end of an accepted call: both proceed
 
-leads-ok : (d : Display) (a : Result) (h : Held) → Carries d (done a h) → a ≡ Result.Ok → displayOf (h .state) ≡ appliedAll (h .notices) d
-leads-ok d Result.Ok h c e = c
-leads-ok d (Result.Err x) h c e = absurd (subst IsErr e tt)
-  where
-    IsErr : Result → Type 0
-    IsErr Result.Ok = ⊥
-    IsErr (Result.Err y) = Unit {0}
-
 more-none : (n : ℕ) → n + 0 ≡ n
 more-none n = omega arith
 
@@ -140,7 +132,7 @@ pub proceeds-both : (g : Registration) (number given more : ℕ) (p : Phase) (m 
 proceeds-both g number given more (Phase.Closed a) m held before le nb f am su ca sz = record {
   limits = le;
   number = omega (arith, nb);
-  state = record { same = ap (λ n. lastOf n a (heldOf m)) (more-none given); few = omega (arith, su); leads = λ e. leads-ok (displayOf (held .state)) a (heldOf m) ca e; sized = sz };
+  state = record { same = ap (λ n. lastOf n a (heldOf m)) (more-none given); few = omega (arith, su); leads = λ e. ends-ok (Leads (displayOf (held .state))) a (heldOf m) ca e; sized = sz };
 }
 proceeds-both g number given more (Phase.Leaving i p x) m held before le nb f am su ca sz = record {
   limits = le;
@@ -301,13 +293,13 @@ module _ (g : Registration) (number k : ℕ) (kind device detail : ℕ) (r : Rec
           Went s held before (openEvent kind device detail r) (openOf s kind device detail r .service)
       go false ex y ey =
           subst (λ z. Went s held before (openEvent kind device detail r) z)
-          (sym (ap (λ b. cond b (cond (eqb kind 5) (stepped (Step.Closed Result.Ok) s) (openedOf s device (eventOf kind detail) r)) (refused (conditions false) s) .service) ex))
+          (sym (ap (λ b. cond b (cond (eqb kind 5) (stepped (Step.Closed Result.Ok 0) s) (openedOf s device (eventOf kind detail) r)) (refused (conditions false) s) .service) ex))
           (stayed s held before (openEvent kind device detail r) runs
           (ap (λ b. cond b (cond (eqb kind 5) (policyOf s held) (proceeds (policyOf s held) 0 i)) (policyOf s held)) ex))
       go true ex true ey =
           subst (λ z. Went s held before (openEvent kind device detail r) z)
-          (sym (ap (λ b. cond b (cond (eqb kind 5) (stepped (Step.Closed Result.Ok) s) (openedOf s device (eventOf kind detail) r)) (refused (conditions false) s) .service) ex
-          ∙ ap (λ b. cond b (stepped (Step.Closed Result.Ok) s) (openedOf s device (eventOf kind detail) r) .service) ey))
+          (sym (ap (λ b. cond b (cond (eqb kind 5) (stepped (Step.Closed Result.Ok 0) s) (openedOf s device (eventOf kind detail) r)) (refused (conditions false) s) .service) ex
+          ∙ ap (λ b. cond b (stepped (Step.Closed Result.Ok 0) s) (openedOf s device (eventOf kind detail) r) .service) ey))
           (stayed s held before (openEvent kind device detail r) runs
           (ap (λ b. cond b (cond (eqb kind 5) (policyOf s held) (proceeds (policyOf s held) 0 i)) (policyOf s held)) ex
           ∙ ap (λ b. cond b (policyOf s held) (proceeds (policyOf s held) 0 i)) ey))
@@ -318,8 +310,8 @@ module _ (g : Registration) (number k : ℕ) (kind device detail : ℕ) (r : Rec
           let port : leb device 15 ≡ true = le-leb device 15 (omega (arith, leb-false (g .ports) device lp, le .ports)) in
           let lt : number < 4294967295 = below number (eqb kind 5) ey nb (last-not-refused (notRegistered (g .ports) (g .chargers) kind device) (unknownEvent kind detail) false (numbersUsed kind number) (eqb-true (conditions false) 0 ex)) in
           subst (λ z. Went s held before (openEvent kind device detail r) z)
-          (sym (ap (λ b. cond b (cond (eqb kind 5) (stepped (Step.Closed Result.Ok) s) (openedOf s device (eventOf kind detail) r)) (refused (conditions false) s) .service) ex
-          ∙ (ap (λ b. cond b (stepped (Step.Closed Result.Ok) s) (openedOf s device (eventOf kind detail) r) .service) ey
+          (sym (ap (λ b. cond b (cond (eqb kind 5) (stepped (Step.Closed Result.Ok 0) s) (openedOf s device (eventOf kind detail) r)) (refused (conditions false) s) .service) ex
+          ∙ (ap (λ b. cond b (stepped (Step.Closed Result.Ok 0) s) (openedOf s device (eventOf kind detail) r) .service) ey
           ∙ ap (λ x. moved g number 0 (t x) .service) same-state)))
           (went g number 0 k (3 + 4 * g .chargers) (t (held .state)) (Phase.Closed a) m held before (openEvent kind device detail r) i le lt
           (opened g (held .state) device (eventOf kind detail) r) (opened-fits g (held .state) device (eventOf kind detail) r)
@@ -339,8 +331,8 @@ module _ (g : Registration) (number k : ℕ) (kind device detail : ℕ) (r : Rec
       i : Interaction
       i = event g device (eventOf kind detail) (held .state) r
 
-      at-machine : openOf s kind device detail r .service ≡ cond (eqb (conditions true) 0) (cond (eqb kind 5) (stepped (Step.Closed Result.Ok) s) (openedOf s device (eventOf kind detail) r)) (refused (conditions true) s) .service
-      at-machine = ap (λ b. cond (eqb (conditions b) 0) (cond (eqb kind 5) (stepped (Step.Closed Result.Ok) s) (openedOf s device (eventOf kind detail) r)) (refused (conditions b) s) .service) io
+      at-machine : openOf s kind device detail r .service ≡ cond (eqb (conditions true) 0) (cond (eqb kind 5) (stepped (Step.Closed Result.Ok 0) s) (openedOf s device (eventOf kind detail) r)) (refused (conditions true) s) .service
+      at-machine = ap (λ b. cond (eqb (conditions b) 0) (cond (eqb kind 5) (stepped (Step.Closed Result.Ok 0) s) (openedOf s device (eventOf kind detail) r)) (refused (conditions b) s) .service) io
 
       at-policy : policyAfter (policyOf s held) (openEvent kind device detail r) ≡ cond (eqb (conditions true) 0) (cond (eqb kind 5) (policyOf s held) (proceeds (policyOf s held) 0 i)) (policyOf s held)
       at-policy = ap (λ b. cond (eqb (conditions b) 0) (cond (eqb kind 5) (policyOf s held) (proceeds (policyOf s held) 0 i)) (policyOf s held)) (open-is k g p m ∙ io)
@@ -349,7 +341,7 @@ module _ (g : Registration) (number k : ℕ) (kind device detail : ℕ) (r : Rec
       go true ex = absurd (eqb-false 0 0 (not-open (notRegistered (g .ports) (g .chargers) kind device) (unknownEvent kind detail) true (numbersUsed kind number) (eqb-true (conditions true) 0 ex)) refl)
       go false ex =
           subst (λ z. Went s held before (openEvent kind device detail r) z)
-          (sym (at-machine ∙ ap (λ b. cond b (cond (eqb kind 5) (stepped (Step.Closed Result.Ok) s) (openedOf s device (eventOf kind detail) r)) (refused (conditions true) s) .service) ex))
+          (sym (at-machine ∙ ap (λ b. cond b (cond (eqb kind 5) (stepped (Step.Closed Result.Ok 0) s) (openedOf s device (eventOf kind detail) r)) (refused (conditions true) s) .service) ex))
           (stayed s held before (openEvent kind device detail r) runs
           (at-policy ∙ ap (λ b. cond b (cond (eqb kind 5) (policyOf s held) (proceeds (policyOf s held) 0 i)) (policyOf s held)) ex))
 

@@ -43,11 +43,11 @@ use Rattle.interaction.specs.Machine.{ofProvider, ofDisconnected, ofConnected, 
 use Rattle.interaction.specs.Served.{noAnswer, brings}
 use Rattle.interaction.proofs.Follows.{opened, leaving-answered, switching-answered, connecting-answered, providing-answered}
 use Rattle.interaction.proofs.Serves.{service, moved-brings}
-use Rattle.run.specs.Policy.{Call, isAt}
+use Rattle.run.specs.Policy.{Call, Stand, between, orderAt, isAt}
 use Rattle.run.specs.Run.{after, openTo, answerTo, pushedAll, packetTo, pictureTo, services, policies}
 use Rattle.run.specs.Sized.{CallsFit}
-use Rattle.run.specs.Demands.{standOf, orderAt, Equal}
-use Rattle.run.proofs.Matches.{Last, policyOf, open-is, Closed, StateAt, Runs, goes}
+use Rattle.run.specs.Demands.{standOf, Equal}
+use Rattle.run.proofs.Matches.{Last, lastOf, policyOf, open-is, Closed, StateAt, Runs, goes}
 
 closed-step : (b : Bool) (x : Stepped) (s : Service) → cond (eqb (cond b 24 26) 0) x (refused (cond b 24 26) s) .step ≡ Step.Refused (cond b 24 26)
 closed-step true x s = refl
@@ -66,10 +66,10 @@ answer-returns g number k p m o a r eo es e =
     let s = service g number k p m in
     let t = answeredOf g p o m (resultOf a) r in
     rw eo (open-step (noAnswer o a) (moved g number k t) s)
-    ∙ (ap (λ z. cond (noAnswer o a) (Step.Refused 24) z) (moved-brings g number k (t .phase) (t .memory) ∙ ap brings e)
+    ∙ (ap (λ z. cond (noAnswer o a) (Step.Refused 24) z) (moved-brings g number k (t .phase) (t .memory) ∙ ap (brings k) e)
     ∙ ap (λ z. answerTo (standOf k z) a r) (sym es))
 
-step-of : (x : Bool) (y : Bool) (n : ℕ) (s : Service) (z : Stepped) → cond x (cond y (stepped (Step.Closed Result.Ok) s) z) (refused n s) .step ≡ cond x (cond y (Step.Closed Result.Ok) (z .step)) (Step.Refused n)
+step-of : (x : Bool) (y : Bool) (n : ℕ) (s : Service) (z : Stepped) → cond x (cond y (stepped (Step.Closed Result.Ok 0) s) z) (refused n s) .step ≡ cond x (cond y (Step.Closed Result.Ok 0) (z .step)) (Step.Refused n)
 step-of true true n s z = refl
 step-of true false n s z = refl
 step-of false true n s z = refl
@@ -80,47 +80,41 @@ module _ (g : Registration) (number k : ℕ) (kind device detail : ℕ) (r : Rec
   conditions waits = firstRefused (openConditions (g .ports) (g .chargers) waits number kind device detail)
 
   abbrev says : Bool → Step → Step
-  says waits z = cond (eqb (conditions waits) 0) (cond (eqb kind 5) (Step.Closed Result.Ok) z) (Step.Refused (conditions waits))
+  says waits z = cond (eqb (conditions waits) 0) (cond (eqb kind 5) (Step.Closed Result.Ok 0) z) (Step.Refused (conditions waits))
 
   open-returns : (p : Phase) (m : Memory) (held : Last) → (isOpen p ≡ false → m .state ≡ held .state) →
       openOf (service g number k p m) kind device detail r .step ≡ openTo (policyOf (service g number k p m) held) kind device detail r
   open-returns p m held same =
       step-of (eqb (conditions (isOpen p)) 0) (eqb kind 5) (conditions (isOpen p)) (service g number k p m) (openedOf (service g number k p m) device (eventOf kind detail) r)
-      ∙ (go (isOpen p) refl ∙ ap (λ w. says w (brings (event g device (eventOf kind detail) (held .state) r))) (sym (open-is k g p m)))
+      ∙ (go (isOpen p) refl ∙ ap (λ w. says w (brings 0 (event g device (eventOf kind detail) (held .state) r))) (sym (open-is k g p m)))
     where
       turn : InternalState → Turn
       turn x = processOf g (remember x noNotices) device (eventOf kind detail) r
 
-      opens-same : isOpen p ≡ false → moved g number 0 (turn (m .state)) .step ≡ brings (event g device (eventOf kind detail) (held .state) r)
+      opens-same : isOpen p ≡ false → moved g number 0 (turn (m .state)) .step ≡ brings 0 (event g device (eventOf kind detail) (held .state) r)
       opens-same e =
           ap (λ x. moved g number 0 (turn x) .step) (same e)
-          ∙ (moved-brings g number 0 (turn (held .state) .phase) (turn (held .state) .memory) ∙ ap brings (opened g (held .state) device (eventOf kind detail) r))
+          ∙ (moved-brings g number 0 (turn (held .state) .phase) (turn (held .state) .memory) ∙ ap (brings 0) (opened g (held .state) device (eventOf kind detail) r))
 
       refused-open : (z w : Step) → says true z ≡ says true w
       refused-open z w = tested (notRegistered (g .ports) (g .chargers) kind device) (unknownEvent kind detail) (numbersUsed kind number)
         where
-          tested : (a b d : Bool) → (let n : ℕ = cond a 23 (cond b 24 25) in cond (eqb n 0) (cond (eqb kind 5) (Step.Closed Result.Ok) z) (Step.Refused n) ≡ cond (eqb n 0) (cond (eqb kind 5) (Step.Closed Result.Ok) w) (Step.Refused n))
+          tested : (a b d : Bool) → (let n : ℕ = cond a 23 (cond b 24 25) in cond (eqb n 0) (cond (eqb kind 5) (Step.Closed Result.Ok 0) z) (Step.Refused n) ≡ cond (eqb n 0) (cond (eqb kind 5) (Step.Closed Result.Ok 0) w) (Step.Refused n))
           tested true b d = refl
           tested false true d = refl
           tested false false d = refl
 
-      go : (w : Bool) → isOpen p ≡ w → says w (moved g number 0 (turn (m .state)) .step) ≡ says w (brings (event g device (eventOf kind detail) (held .state) r))
-      go true e = refused-open (moved g number 0 (turn (m .state)) .step) (brings (event g device (eventOf kind detail) (held .state) r))
+      go : (w : Bool) → isOpen p ≡ w → says w (moved g number 0 (turn (m .state)) .step) ≡ says w (brings 0 (event g device (eventOf kind detail) (held .state) r))
+      go true e = refused-open (moved g number 0 (turn (m .state)) .step) (brings 0 (event g device (eventOf kind detail) (held .state) r))
       go false e = ap (λ z. says false z) (opens-same e)
 
-closed-same : (g : Registration) (number k : ℕ) (p : Phase) (m : Memory) (held : Last) (before : InternalState) → StateAt g number k p m held before → isOpen p ≡ false → m .state ≡ held .state
-closed-same g number k (Phase.Closed a) m held before c o = ap (λ (x : Last). x .state) (c .same)
-closed-same g number k (Phase.Leaving i p f) m held before c o = absurd (eqb-false 0 0 o refl)
-closed-same g number k (Phase.Switching l old f new) m held before c o = absurd (eqb-false 0 0 o refl)
-closed-same g number k (Phase.Connecting s new) m held before c o = absurd (eqb-false 0 0 o refl)
-closed-same g number k (Phase.Providing p d) m held before c o = absurd (eqb-false 0 0 o refl)
-
-closed-answer : (g : Registration) (number k : ℕ) (p : Phase) (m : Memory) (held : Last) (before : InternalState) → StateAt g number k p m held before → isOpen p ≡ false → answerIn p ≡ held .answer
-closed-answer g number k (Phase.Closed a) m held before c o = ap (λ (x : Last). x .answer) (c .same)
-closed-answer g number k (Phase.Leaving i p f) m held before c o = absurd (eqb-false 0 0 o refl)
-closed-answer g number k (Phase.Switching l old f new) m held before c o = absurd (eqb-false 0 0 o refl)
-closed-answer g number k (Phase.Connecting s new) m held before c o = absurd (eqb-false 0 0 o refl)
-closed-answer g number k (Phase.Providing p d) m held before c o = absurd (eqb-false 0 0 o refl)
+-- closed, what the last event has left is what the machine has
+closed-last : (g : Registration) (number k : ℕ) (p : Phase) (m : Memory) (held : Last) (before : InternalState) → StateAt g number k p m held before → isOpen p ≡ false → lastOf k (answerIn p) (heldOf m) ≡ held
+closed-last g number k (Phase.Closed a) m held before c o = c .same
+closed-last g number k (Phase.Leaving i p f) m held before c o = absurd (eqb-false 0 0 o refl)
+closed-last g number k (Phase.Switching l old f new) m held before c o = absurd (eqb-false 0 0 o refl)
+closed-last g number k (Phase.Connecting s new) m held before c o = absurd (eqb-false 0 0 o refl)
+closed-last g number k (Phase.Providing p d) m held before c o = absurd (eqb-false 0 0 o refl)
 
 answers-at : (g : Registration) (number k : ℕ) (p : Phase) (m : Memory) (held : Last) (before : InternalState) (n : ℕ) (r : Records) → Runs (service g number k p m) held before →
     answerOf (service g number k p m) n r .step ≡ answerTo (standOf k (standsAt g p m)) n r
@@ -210,21 +204,24 @@ pub run-equal : (l : List Call) (s : Service) (held : Last) (before : InternalSt
 run-equal [] s held before cf x = record {
   registered = refl;
   number = refl;
-  state = λ e.
-      closed-same (s .registration) (s .number) (s .orders) (s .phase) (s .memory) held before (x .state)
-      (sym (open-is (s .orders) (s .registration) (s .phase) (s .memory)) ∙ ap isAt e);
-  answer = λ e.
-      closed-answer (s .registration) (s .number) (s .orders) (s .phase) (s .memory) held before (x .state)
-      (sym (open-is (s .orders) (s .registration) (s .phase) (s .memory)) ∙ ap isAt e);
+  state = λ e. ap (λ (y : Last). y .state) (last (is-closed e));
+  answer = λ e. ap (λ (y : Last). y .answer) (last (is-closed e));
+  orders = λ e. ap (λ (y : Last). y .orders) (last (is-closed e));
+  notices = λ e. ap (λ (y : Last). y .notices) (last (is-closed e));
   order = order-at (s .registration) (s .number) (s .orders) (s .phase) (s .memory);
   stand = refl;
   opening = λ kind device detail r.
-      open-returns (s .registration) (s .number) (s .orders) kind device detail r (s .phase) (s .memory) held
-      (λ o. closed-same (s .registration) (s .number) (s .orders) (s .phase) (s .memory) held before (x .state) o);
+      open-returns (s .registration) (s .number) (s .orders) kind device detail r (s .phase) (s .memory) held (λ o. ap (λ (y : Last). y .state) (last o));
   answering = λ a r. answers-at (s .registration) (s .number) (s .orders) (s .phase) (s .memory) held before a r x;
   packet = packet-at (s .registration) (s .number) (s .orders) (s .phase) (s .memory) held before (x .state);
   picture = picture-at (s .registration) (s .number) (s .orders) (s .phase) (s .memory) held before (x .state);
 }
+  where
+    last : isOpen (s .phase) ≡ false → lastOf (s .orders) (answerIn (s .phase)) (heldOf (s .memory)) ≡ held
+    last o = closed-last (s .registration) (s .number) (s .orders) (s .phase) (s .memory) held before (x .state) o
+
+    is-closed : standOf (s .orders) (standsAt (s .registration) (s .phase) (s .memory)) ≡ between → isOpen (s .phase) ≡ false
+    is-closed e = sym (open-is (s .orders) (s .registration) (s .phase) (s .memory)) ∙ ap isAt e
 run-equal (c ∷ l) s held before cf x =
     let t = goes s held before c (cf .0) x in
     subst (λ z. Equal (services (after s c) l) (policies z l)) (sym (t .same)) (run-equal l (after s c) (t .heldₜ) (t .beforeₜ) (cf .1) (t .runs))

@@ -10,16 +10,16 @@ use Rattle.display.specs.Notices.{listed}
 use Rattle.display.specs.declared.packet.Packet.{Packet}
 use Rattle.event.specs.Phase.{orderOf}
 use Rattle.event.specs.declared.memory.Records.{Records}
-use Rattle.event.specs.declared.phase.OptionOrder.{OptionOrder}
 use Rattle.service.specs.Service.{answerIn, openOf, answerOf}
 use Rattle.service.specs.declared.Service.{Service}
 use Rattle.send.specs.Send.{packetOf, sendPacket, sendPicture}
 use Rattle.interaction.specs.Action.{Held, Interaction, done, ask}
+use Rattle.interaction.specs.Machine as machine
 use Rattle.interaction.specs.Machine.{standsAt}
 use Rattle.interaction.specs.Served.{Answers, serviceAfter, fedBy, ordersBy, AtMost, numbered, Stands, Opens, eventAt}
 use Rattle.link.specs.Link.{Demand3}
 use Rattle.link.specs.Source.{Source}
-use Rattle.run.specs.Policy.{Call, Stand, between, at, Policy, started, heldAt}
+use Rattle.run.specs.Policy.{Call, Stand, between, at, Policy, orderAt, started, heldAt}
 use Rattle.run.specs.Run.{Wrote, openTo, answerTo, packetTo, pictureTo, services, policies}
 use Rattle.run.specs.Sized.{CallsFit}
 
@@ -58,17 +58,15 @@ abbrev pub standOf : ℕ → Interaction → Stand
 standOf n (done a h) = between
 standOf n (ask o k) = at n o k
 
-abbrev pub orderAt : Stand → OptionOrder
-orderAt between = OptionOrder.None
-orderAt (at n o k) = OptionOrder.Some o
-
 pub record Equal (s : Service) (p : Policy) : Type 0 where
   pub registered : s .registration ≡ p .registration
   pub number : s .number ≡ p .number
   -- between events the whole state is the definition's
   pub state : p .stand ≡ between → s .memory .state ≡ p .state
-  -- and so is how the last one closed
+  -- and so is how the last one closed, after how many orders and with which notices
   pub answer : p .stand ≡ between → answerIn (s .phase) ≡ p .answer
+  pub orders : p .stand ≡ between → s .orders ≡ p .orders
+  pub notices : p .stand ≡ between → machine.listed (s .memory .notices) ≡ p .notices
   -- while one is open, the order is, with the number of orders given and with what every answer leads to
   pub order : orderOf (s .phase) ≡ orderAt (p .stand)
   pub stand : standOf (s .orders) (standsAt (s .registration) (s .phase) (s .memory)) ≡ p .stand

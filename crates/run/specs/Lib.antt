@@ -3,3 +3,4 @@ pub mod Run
 pub mod Orders
 pub mod Sized
 pub mod Demands
+pub mod Chosen

@@ -10,6 +10,7 @@ use Rattle.event.specs.Memory.{freshState}
 use Rattle.event.specs.declared.memory.InternalState.{InternalState}
 use Rattle.event.specs.declared.memory.Records.{Records}
 use Rattle.event.specs.declared.memory.Registration.{Registration}
+use Rattle.event.specs.declared.phase.OptionOrder.{OptionOrder}
 use Rattle.event.specs.declared.phase.Order.{Order}
 use Rattle.service.specs.Refusals.{firstRefused, openConditions}
 use Rattle.service.specs.Service.{eventOf, resultOf}
@@ -53,6 +54,10 @@ proceeds p n (done a h) =
     record { registration = p .registration; number = suc (p .number); state = h .state; answer = a; orders = n; notices = h .notices; stand = between }
 proceeds p n (ask o k) =
     record { registration = p .registration; number = p .number; state = p .state; answer = p .answer; orders = p .orders; notices = p .notices; stand = at (suc n) o k }
+
+abbrev pub orderAt : Stand → OptionOrder
+orderAt between = OptionOrder.None
+orderAt (at n o k) = OptionOrder.Some o
 
 abbrev pub isAt : Stand → Bool
 isAt between = false

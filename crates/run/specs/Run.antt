@@ -52,12 +52,12 @@ abbrev pub openTo : Policy → ℕ → ℕ → ℕ → Records → Step
 openTo p kind device detail r =
     let n : ℕ = openRefused p kind device detail in
     cond (eqb n 0)
-    (cond (eqb kind 5) (Step.Closed Result.Ok) (brings (event (p .registration) device (eventOf kind detail) (p .state) r)))
+    (cond (eqb kind 5) (Step.Closed Result.Ok 0) (brings 0 (event (p .registration) device (eventOf kind detail) (p .state) r)))
     (Step.Refused n)
 
 abbrev pub answerTo : Stand → ℕ → Records → Step
 answerTo between a r = Step.Refused (firstRefused (answerConditions OptionOrder.None a))
-answerTo (at n o k) a r = cond (noAnswer o a) (Step.Refused 24) (brings (k (resultOf a) r))
+answerTo (at n o k) a r = cond (noAnswer o a) (Step.Refused 24) (brings n (k (resultOf a) r))
 
 -- and the writes: the packet of the event closed last, what is held, or the number that turns it back
 
