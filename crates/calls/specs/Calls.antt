@@ -1,20 +1,12 @@
 -- What each C function returns and what it leaves in the bytes it is lent (docs/STATE.md). A call that is turned back leaves them as they were.
 use Prim.Native.Nat.{ℕ}
-use mathlib.Core.Bool.{Bool, true, false, cond, _&&_}
+use mathlib.Core.Bool.{cond}
 use mathlib.Core.List.{List}
-use lib.Dec.{eqb, ltb}
+use lib.Dec.{eqb}
 use lib.ListN.{length}
-use Rattle.records.specs.Charger.{chargerRow}
-use Rattle.records.specs.Psu.{psuRow}
-use Rattle.records.specs.declared.charger.Row as charger
-use Rattle.records.specs.declared.psu.Row as psu
-use Rattle.display.specs.declared.packet.EventPacket.{EventPacket}
-use Rattle.display.specs.declared.packet.Packet.{Packet}
-use Rattle.display.specs.declared.packet.Picture.{Picture}
 use Rattle.power_policy_service.specs.declared.config.OptionConfig.{OptionConfig}
 use Rattle.event.specs.Phase.{orderOf}
 use Rattle.event.specs.declared.memory.Records.{Records}
-use Rattle.event.specs.declared.memory.Registration.{Registration}
 use Rattle.event.specs.declared.phase.OptionOrder.{OptionOrder}
 use Rattle.event.specs.declared.phase.Phase.{Phase}
 use Rattle.service.specs.Service.{answerIn, startOf, openOf, answerOf}
@@ -23,35 +15,18 @@ use Rattle.service.specs.declared.Started.{Started}
 use Rattle.service.specs.declared.Step.{Step}
 use Rattle.service.specs.declared.Stepped.{Stepped}
 use Rattle.send.specs.Send.{sendPacket, sendPicture}
-use Rattle.send.specs.declared.SentPacket.{SentPacket}
-use Rattle.send.specs.declared.SentPicture.{SentPicture}
-use Rattle.wire.specs.Bytes.{eventBytes, pictureBytes}
 use Rattle.wire.specs.Read.{readPacket}
 use Rattle.wire.specs.declared.packet.ReadPacket.{ReadPacket}
-use Rattle.wire_writer.specs.Stored.{stored, writtenOf}
-use Rattle.wire_writer.specs.declared.Written.{Written}
 use Rattle.follower.specs.Follower.{fresh, taken, stateOf, consumerOf}
 use Rattle.follower.specs.declared.Follower.{Follower}
-use Rattle.follower.specs.declared.Shown.{Shown}
-use Rattle.follower.specs.declared.State.{State}
 use Rattle.service_image.specs.Image.{serviceBytes, serviceFrom}
 use Rattle.service_image.specs.declared.ReadService.{ReadService}
 use Rattle.follower_image.specs.Image.{followerBytes, followerFrom}
 use Rattle.follower_image.specs.declared.ReadFollower.{ReadFollower}
 use Rattle.calls.specs.declared.rows.Rows.{Rows}
-use Rattle.calls.specs.Numbers.{refusedNumber, orderNumber, closedNumber, stepNumber, writtenNumber, doneNumber, lostNumber, shownNumber, consumerNumber, trackedNumber}
-
--- the number returned, and the bytes lent after the call
-pub record Called : Type 0 where
-  pub number : ℕ
-  pub bytes : List ℕ
-
-abbrev pub called : ℕ → List ℕ → Called
-called n b = record { number = n; bytes = b }
-
--- turned back
-abbrev pub refusedCall : ℕ → List ℕ → Called
-refusedCall n b = called (refusedNumber n) b
+use Rattle.calls.specs.Called.{Called, called, refusedCall}
+use Rattle.calls.specs.Lent.{rowsIn, packetCall, pictureCall, shownAs, trackedIn}
+use Rattle.calls.specs.Numbers.{refusedNumber, orderNumber, closedNumber, doneNumber, consumerNumber}
 
 -- start: 20, then 21 for bytes of another length than an image's
 
@@ -68,12 +43,9 @@ putService image s = cond (eqb (length image) 67) (serviceBytes s) image
 
 -- open and answer: 21, then 22 for records of another length or with a field out of range, then what turns the service's call back
 
-abbrev pub rowsOf : psu.Row → charger.Row → Rows
-rowsOf p c = record { ok = p .ok && c .ok; records = record { psus = p .psus; chargers = c .chargers } }
-
 abbrev pub steppedAt : List ℕ → Step → Service → Called
 steppedAt image (Step.Order o) s = called (orderNumber o) (putService image s)
-steppedAt image (Step.Closed a) s = called (closedNumber a) (putService image s)
+steppedAt image (Step.Closed a n) s = called (closedNumber a n) (putService image s)
 steppedAt image (Step.Refused n) s = refusedCall n image
 
 abbrev pub steppedCall : List ℕ → Stepped → Called
@@ -81,9 +53,6 @@ steppedCall image x = steppedAt image (x .step) (x .service)
 
 abbrev pub withRows : List ℕ → Rows → (Records → Stepped) → Called
 withRows image r f = cond (r .ok) (steppedCall image (f (r .records))) (refusedCall 22 image)
-
-abbrev pub rowsIn : Registration → List ℕ → List ℕ → Rows
-rowsIn g psus chargers = rowsOf (psuRow (g .ports) psus) (chargerRow (g .chargers) chargers)
 
 abbrev pub onService : List ℕ → ReadService → List ℕ → List ℕ → (Service → Records → Stepped) → Called
 onService image ReadService.Refused psus chargers f = refusedCall 21 image
@@ -97,32 +66,17 @@ openCall image psus chargers kind device detail =
 abbrev pub answerCall : List ℕ → List ℕ → List ℕ → ℕ → Called
 answerCall image psus chargers a = onService image (serviceFrom image) psus chargers (λ s r. answerOf s a r)
 
--- order: where the event stands
+-- order: where the event stands; closed, with how many orders it gave
 
-abbrev pub standNumber : OptionOrder → Phase → ℕ
-standNumber OptionOrder.None p = closedNumber (answerIn p)
-standNumber (OptionOrder.Some o) p = orderNumber o
+abbrev pub standNumber : OptionOrder → Phase → ℕ → ℕ
+standNumber OptionOrder.None p n = closedNumber (answerIn p) n
+standNumber (OptionOrder.Some o) p n = orderNumber o
 
 abbrev pub orderCall : ReadService → ℕ
 orderCall ReadService.Refused = refusedNumber 21
-orderCall (ReadService.Read s) = standNumber (orderOf (s .phase)) (s .phase)
+orderCall (ReadService.Read s) = standNumber (orderOf (s .phase)) (s .phase) (s .orders)
 
--- both writes, into a buffer: 21, then 25 and 27, then 29 for a buffer under 64 bytes; bytes past what is written stay
-
-abbrev pub writtenAs : Written → ℕ
-writtenAs (Written.Refused n) = refusedNumber n
-writtenAs (Written.Length n) = writtenNumber n
-
-abbrev pub writtenCall : List ℕ → List ℕ → Called
-writtenCall bytes buffer = called (writtenAs (writtenOf bytes buffer)) (stored bytes buffer)
-
-abbrev pub packetCall : SentPacket → List ℕ → Called
-packetCall (SentPacket.Refused n) buffer = refusedCall n buffer
-packetCall (SentPacket.Packet e) buffer = writtenCall (eventBytes e) buffer
-
-abbrev pub pictureCall : SentPicture → List ℕ → Called
-pictureCall (SentPicture.Refused n) buffer = refusedCall n buffer
-pictureCall (SentPicture.Picture p) buffer = writtenCall (pictureBytes p) buffer
+-- both writes, into a buffer: 21, then 25 and 27, then 29
 
 abbrev pub writePacketCall : ReadService → List ℕ → Called
 writePacketCall ReadService.Refused buffer = refusedCall 21 buffer
@@ -153,14 +107,6 @@ abbrev pub takeCall : List ℕ → List ℕ → Called
 takeCall image packet = takeOn image (followerFrom image) packet
 
 -- what is shown
-
-abbrev pub shownAs : State → Shown → ℕ
-shownAs t (Shown.Lost floor) = lostNumber
-shownAs t (Shown.Picture s) = shownNumber t (s .number) (s .display)
-
-abbrev pub trackedIn : Shown → ℕ
-trackedIn (Shown.Lost floor) = trackedNumber (record { mask = 0 })
-trackedIn (Shown.Picture s) = trackedNumber (s .display .providers)
 
 abbrev pub readerCall : ReadFollower → (Follower → ℕ) → ℕ
 readerCall r f = cond (r .ok) (f (r .follower)) (refusedNumber 21)

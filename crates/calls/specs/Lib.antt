@@ -1,2 +1,5 @@
 pub mod Numbers
+pub mod OneToOne
+pub mod Called
+pub mod Lent
 pub mod Calls

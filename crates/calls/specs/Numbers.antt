@@ -24,7 +24,11 @@ packed what a b c d e = what + 256 * a + 65536 * b + 16777216 * c + 4294967296 *
 abbrev pub refusedNumber : ℕ → ℕ
 refusedNumber n = packed 0 n 0 0 0 0
 
--- an order: its kind, its device, and the capability of a connect or attach order
+-- the milliseconds of a wait
+abbrev pub waitMs : ℕ
+waitMs = 800
+
+-- an order: its kind, its device, and the capability of a connect or attach order, or how long a wait lasts
 
 abbrev pub bareOrder : ℕ → ℕ → ℕ
 bareOrder kind device = packed 1 kind device 0 0 0
@@ -40,9 +44,9 @@ orderNumber (Order.IsReady i) = bareOrder 3 i
 orderNumber (Order.InitCharger i) = bareOrder 4 i
 orderNumber (Order.Attach i c) = capabilityOrder 5 i (consumerFlagsByte (c .flags)) (c .capability)
 orderNumber (Order.Detach i) = bareOrder 6 i
-orderNumber Order.Wait = bareOrder 7 0
+orderNumber Order.Wait = packed 1 7 0 0 waitMs 0
 
--- a close: the answer byte, and the states of a ported transition's InvalidState
+-- a close: the answer byte, the states of a ported transition's InvalidState, and how many orders the event has given
 
 abbrev pub expectedIn : OptionMismatch → ℕ
 expectedIn OptionMismatch.None = 0
@@ -64,13 +68,13 @@ mismatchIn Error.Bus = OptionMismatch.None
 mismatchIn Error.Charger = OptionMismatch.None
 mismatchIn Error.Failed = OptionMismatch.None
 
-abbrev pub closedNumber : Result → ℕ
-closedNumber Result.Ok = packed 2 0 0 0 0 0
-closedNumber (Result.Err e) = packed 2 (errorByte e) (expectedIn (mismatchIn e)) (actualIn (mismatchIn e)) 0 0
+abbrev pub closedNumber : Result → ℕ → ℕ
+closedNumber Result.Ok orders = packed 2 0 0 0 orders 0
+closedNumber (Result.Err e) orders = packed 2 (errorByte e) (expectedIn (mismatchIn e)) (actualIn (mismatchIn e)) orders 0
 
 abbrev pub stepNumber : Step → ℕ
 stepNumber (Step.Order o) = orderNumber o
-stepNumber (Step.Closed a) = closedNumber a
+stepNumber (Step.Closed a n) = closedNumber a n
 stepNumber (Step.Refused n) = refusedNumber n
 
 -- so many bytes, at most 64

@@ -12,6 +12,9 @@ use service::Step;
 ghost use mathlib.Core.Path.{_≡_};
 ghost use Rattle.calls.specs.Numbers.{packed, refusedNumber, bareOrder, capabilityOrder, orderNumber, expectedIn, actualIn, mismatchIn, closedNumber, stepNumber, writtenNumber, doneNumber, stateNumber, lostNumber, shownNumber, consumerNumber, trackedNumber};
 
+// The milliseconds of a wait.
+const WAIT_MS: u16 = 800;
+
 // Four bytes and two numbers of two bytes, lowest first.
 fn pack(what: u8, a: u8, b: u8, c: u8, d: u16, e: u16) -> u64
     ensures { λ r. ⌜ r ≡ packed what a b c d e ⌝ }
@@ -67,7 +70,7 @@ pub fn order(order: Order) -> u64
             with_capability(5, i, flags.byte(), capability)
         }
         Order::Detach(i) => bare(6, i),
-        Order::Wait => bare(7, 0),
+        Order::Wait => pack(1, 7, 0, 0, WAIT_MS, 0),
     }
 }
 
@@ -110,14 +113,15 @@ fn actual(m: OptionMismatch) -> u8
     }
 }
 
-pub fn closed(answer: Result) -> u64
-    ensures { λ r. ⌜ r ≡ closedNumber answer ⌝ }
+// An event is closed with this answer, after so many orders.
+pub fn closed(answer: Result, orders: u8) -> u64
+    ensures { λ r. ⌜ r ≡ closedNumber answer orders ⌝ }
 {
     match answer {
-        Result::Ok => pack(2, 0, 0, 0, 0, 0),
+        Result::Ok => pack(2, 0, 0, 0, orders as u16, 0),
         Result::Err(e) => {
             let m = mismatch(e);
-            pack(2, e.byte(), expected(m), actual(m), 0, 0)
+            pack(2, e.byte(), expected(m), actual(m), orders as u16, 0)
         }
     }
 }
@@ -127,7 +131,7 @@ pub fn step(step: Step) -> u64
 {
     match step {
         Step::Order(o) => order(o),
-        Step::Closed(answer) => closed(answer),
+        Step::Closed(answer, orders) => closed(answer, orders),
         Step::Refused(number) => refused(number),
     }
 }

@@ -2,7 +2,7 @@
 use event::memory::Records;
 use event::memory::Registration;
 ghost use mathlib.Core.Path.{_≡_};
-ghost use Rattle.calls.specs.Calls.{rowsOf, rowsIn};
+ghost use Rattle.calls.specs.Lent.{rowsOf, rowsIn};
 
 // The records of all ports and chargers, and whether their bytes are those of records.
 pub struct Rows {

@@ -177,10 +177,10 @@ pub record Edges : Type 0 where
   pub P5-unlimited : powerStateOf rustDefault 15000 ≡ PowerState.Unlimited
   pub P5-limited : powerStateOf rustDefault 15001 ≡ PowerState.Limited
   -- P6: a lone request 15,000 mV, 1,000 mA is granted 5,000 mV, 3,000 mA
-  pub P6 : brings (opened 1 0 EventData.RequestedProviderCapability freshState (requesting (contract 15000 1000) ∷ []))
+  pub P6 : brings 0 (opened 1 0 EventData.RequestedProviderCapability freshState (requesting (contract 15000 1000) ∷ []))
       ≡ Step.Order (Order.ConnectProvider 0 (contract 5000 3000))
   -- P7: request 5,000 mV, 500 mA beside a contract of 15,000 mW: granted 5,000 mV, 1,500 mA
-  pub P7 : brings (opened 2 0 EventData.RequestedProviderCapability freshState (requesting (contract 5000 500) ∷ providing (contract 5000 3000) ∷ []))
+  pub P7 : brings 0 (opened 2 0 EventData.RequestedProviderCapability freshState (requesting (contract 5000 500) ∷ providing (contract 5000 3000) ∷ []))
       ≡ Step.Order (Order.ConnectProvider 0 (contract 5000 1500))
   -- P8: attach in Idle is InvalidState (expected {Detached}, bit 1; actual Idle), and the record stays Idle
   pub P8 : (c : OptionConsumerPowerCapability) (r : OptionProviderPowerCapability)

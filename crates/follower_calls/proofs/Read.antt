@@ -20,7 +20,8 @@ use Rattle.follower_image.specs.declared.ReadFollower.{ReadFollower}
 use Rattle.follower_image.specs.declared.ReadShown.{ReadShown}
 use Rattle.follower_in_place.specs.Taken.{takenImage}
 use Rattle.follower_in_place.proofs.Images.{read-lost, read-showing, read-refused}
-use Rattle.calls.specs.Calls.{Called, refusedCall, putFollower, takenCall, takeOn, takeCall, readerCall}
+use Rattle.calls.specs.Called.{Called, refusedCall}
+use Rattle.calls.specs.Calls.{putFollower, takenCall, takeOn, takeCall, readerCall}
 use Rattle.calls.specs.Numbers.{refusedNumber, doneNumber}
 
 -- an image

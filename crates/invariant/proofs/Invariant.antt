@@ -113,7 +113,7 @@ open-good s kind device detail r w h = go (eqb n 0) refl (eqb kind 5) refl
         (lt-ltb device (g .ports) (leb-false (g .ports) device port)))
 
     go : (a : Bool) → eqb n 0 ≡ a → (b : Bool) → eqb kind 5 ≡ b →
-        Good (cond a (cond b (stepped (Step.Closed Result.Ok) s) (openedOf s device (eventOf kind detail) r)) (refused n s) .service)
+        Good (cond a (cond b (stepped (Step.Closed Result.Ok 0) s) (openedOf s device (eventOf kind detail) r)) (refused n s) .service)
     go true e true f = h
     go true e false f = good (openedOf s device (eventOf kind detail) r .service) (accepted (eqb-true n 0 e) f)
     go false e b f = h

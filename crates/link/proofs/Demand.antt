@@ -125,6 +125,36 @@ module _ (source : Source) where
       at-lost : taken (after l) (Packet.Picture p) .shown ≡ takenAt (Shown.Lost (lost .0)) (after l .held) (Packet.Picture p) .shown
       at-lost = ap (λ (x : Shown). takenAt x (after l .held) (Packet.Picture p) .shown) (lost .1)
 
+  -- (d)
+
+  lost-stays : (floor : ℕ) (h : Held) (p : Picture) → (floor ≤ p .number → ⊥) → takenAt (Shown.Lost floor) h (Packet.Picture p) .shown ≡ Shown.Lost floor
+  lost-stays floor h p k = go (ltb (p .number) floor) refl
+    where
+      go : (t : Bool) → ltb (p .number) floor ≡ t → takenAt (Shown.Lost floor) h (Packet.Picture p) .shown ≡ Shown.Lost floor
+      go true t = rw t
+      go false t = absurd (k (ltb-false (p .number) floor t))
+
+  demand-d : (l : List (List ℕ)) (b : List ℕ) → AllHanded source l → Handed source b → Lost (after l) →
+      ((p : Picture) → readPacket b ≡ ReadPacket.Packet (Packet.Picture p) → NoLower (p .number) l → ⊥) → Lost (after (l ++ (b ∷ [])))
+  demand-d l b h g lost k = subst Lost (sym (takes-on fresh l (b ∷ []))) (go g)
+    where
+      f : Follower
+      f = after l
+
+      good : GoodAt source (In l) (Shown.Lost (lost .0)) (f .held)
+      good = subst (λ x. GoodAt source (In l) x (f .held)) (lost .1) (kept-after l h .good)
+
+      go : Handed source b → Lost (take f b)
+      go (turned-back n e) = subst (λ (x : ReadPacket). Lost (takenRead f x)) (sym e) lost
+      go (copy (Packet.Event y) w e) =
+          subst (λ (x : ReadPacket). Lost (takenRead f x)) (sym (read-back source (Packet.Event y) b w e))
+          (subst (λ (x : Shown). Lost (takenAt x (f .held) (Packet.Event y))) (sym (lost .1)) (_, refl))
+      go (copy (Packet.Picture y) w e) =
+          let r = read-back source (Packet.Picture y) b w e in
+          subst (λ (x : ReadPacket). Lost (takenRead f x)) (sym r)
+          (subst (λ (x : Shown). Lost (takenAt x (f .held) (Packet.Picture y))) (sym (lost .1))
+          (lost .0, lost-stays (lost .0) (f .held) y (λ q. k y r (λ v m. omega (arith, good .0 v m, q)))))
+
   -- (b)
 
   module _ (most n : ℕ) (All : EventPacket → Type 0) (near : most ≤ n + 8) (bounded : (e : EventPacket) → All e → e .number ≤ most)
@@ -200,5 +230,8 @@ module _ (source : Source) where
           (λ e m. met-right (Packet.Event e) before later m) (λ p m. above (Packet.Picture p) (met-right (Packet.Picture p) before later m))
           (kept-after before (handed-left before later h)) start)
 
+  fresh-lost : Lost (after [])
+  fresh-lost = (0, refl)
+
   pub demand-3 : Demand3 source
-  demand-3 = record { a = demand-a; b = demand-b; c = demand-c }
+  demand-3 = record { fresh-lost = fresh-lost; a = demand-a; b = demand-b; c = demand-c; d = demand-d }

@@ -8,10 +8,12 @@ use Rattle.display.specs.declared.packet.EventPacket.{EventPacket}
 use Rattle.display.specs.declared.packet.Packet.{Packet}
 use Rattle.display.specs.declared.packet.Picture.{Picture}
 use Rattle.wire.specs.Bytes.{packetBytes}
+use Rattle.wire.specs.Read.{readPacket}
+use Rattle.wire.specs.declared.packet.ReadPacket.{ReadPacket}
 use Rattle.follower.specs.Follower.{fresh}
 use Rattle.follower.specs.declared.Follower.{Follower}
 use Rattle.link.specs.Source.{Source, numberIn}
-use Rattle.link.specs.Takes.{takes, AllHanded, Met, Lost, Shows}
+use Rattle.link.specs.Takes.{takes, Handed, AllHanded, Met, Lost, Shows}
 
 -- after these takes
 abbrev pub after : List (List ℕ) → Follower
@@ -30,6 +32,8 @@ abbrev pub NoLower : ℕ → List (List ℕ) → Type 0
 NoLower n l = (e : EventPacket) → Met (Packet.Event e) l → e .number ≤ n
 
 pub record Demand3 (source : Source) : Type 0 where
+  -- a fresh follower is lost
+  pub fresh-lost : Lost (after [])
   -- the follower says lost, or shows the n of an event that has closed (0: the start), with exactly what was held there
   pub a : (l : List (List ℕ)) → AllHanded source l → Lost (after l) ⊎ ((n : ℕ) × source .Closed n × Shows (after l) n (source .held n))
   -- if it shows n and then each event packet n + 1 to n + k comes, in any order, k ≤ 8, all without error, and nothing above n + k is
@@ -43,3 +47,8 @@ pub record Demand3 (source : Source) : Type 0 where
       (before : List (List ℕ)) (p : Picture) → AllHanded source before → source .Written (Packet.Picture p) → Lost (after before) →
       (NoLower (p .number) before → Shows (after (before ++ (packetBytes (Packet.Picture p) ∷ []))) (p .number) (p .display))
       × (Shows (after (before ++ (packetBytes (Packet.Picture p) ∷ []))) (p .number) (p .display) → NoLower (p .number) before)
+  -- whatever else is handed to it, it stays lost
+  pub d :
+      (before : List (List ℕ)) (b : List ℕ) → AllHanded source before → Handed source b → Lost (after before) →
+      ((p : Picture) → readPacket b ≡ ReadPacket.Packet (Packet.Picture p) → NoLower (p .number) before → ⊥) →
+      Lost (after (before ++ (b ∷ [])))

@@ -2,10 +2,8 @@
 // byte that it was lent.
 use power_policy_service::config::Config;
 ghost use mathlib.Core.Path.{_≡_};
-ghost use Rattle.power_policy_service.specs.Config.{configFrom};
-ghost use Rattle.follower_image.specs.Image.{followerFrom};
-ghost use Rattle.service_image.specs.Image.{serviceFrom};
-ghost use Rattle.calls.specs.Calls.{startCall, openCall, answerCall, orderCall, writePacketCall, writePictureCall, followerStartCall, takeCall, shownCall, consumerCall, trackedCall};
+ghost use Rattle.exported.specs.Functions.{arguments};
+ghost use Rattle.exported.specs.Ours.{functions};
 
 // A fresh service with so many ports and chargers and this configuration, in bytes of any content and of an image's length.
 #[no_mangle]
@@ -21,8 +19,8 @@ pub extern "C" fn power_policy_start(
     minimum_present: u64,
     minimum_mw: u64,
 ) -> u64
-    ensures { λ r. ⌜ r ≡ startCall (now (image .entry)) (configFrom «threshold_mw» «unlimited_mv» «unlimited_ma» «limited_mv» «limited_ma» «minimum_present» «minimum_mw») ports chargers .number ⌝ }
-    ensures { λ _. ⌜ now (image .exit) ≡ startCall (now (image .entry)) (configFrom «threshold_mw» «unlimited_mv» «unlimited_ma» «limited_mv» «limited_ma» «minimum_present» «minimum_mw») ports chargers .bytes ⌝ }
+    ensures { λ r. ⌜ r ≡ functions .start (now (image .entry)) (arguments ports chargers «threshold_mw» «unlimited_mv» «unlimited_ma» «limited_mv» «limited_ma» «minimum_present» «minimum_mw») .number ⌝ }
+    ensures { λ _. ⌜ now (image .exit) ≡ functions .start (now (image .entry)) (arguments ports chargers «threshold_mw» «unlimited_mv» «unlimited_ma» «limited_mv» «limited_ma» «minimum_present» «minimum_mw») .bytes ⌝ }
 {
     let config = Config::from_numbers(
         threshold_mw,
@@ -46,8 +44,8 @@ pub extern "C" fn power_policy_open(
     device: u32,
     detail: u32,
 ) -> u64
-    ensures { λ r. ⌜ r ≡ openCall (now (image .entry)) (now (psus .entry)) (now (chargers .entry)) kind device detail .number ⌝ }
-    ensures { λ _. ⌜ now (image .exit) ≡ openCall (now (image .entry)) (now (psus .entry)) (now (chargers .entry)) kind device detail .bytes ⌝ }
+    ensures { λ r. ⌜ r ≡ functions .open-event (now (image .entry)) (now (psus .entry)) (now (chargers .entry)) kind device detail .number ⌝ }
+    ensures { λ _. ⌜ now (image .exit) ≡ functions .open-event (now (image .entry)) (now (psus .entry)) (now (chargers .entry)) kind device detail .bytes ⌝ }
 {
     service_calls::open_event(image, psus, chargers, kind, device, detail)
 }
@@ -60,8 +58,8 @@ pub extern "C" fn power_policy_answer(
     chargers: &[u8],
     answer: u32,
 ) -> u64
-    ensures { λ r. ⌜ r ≡ answerCall (now (image .entry)) (now (psus .entry)) (now (chargers .entry)) answer .number ⌝ }
-    ensures { λ _. ⌜ now (image .exit) ≡ answerCall (now (image .entry)) (now (psus .entry)) (now (chargers .entry)) answer .bytes ⌝ }
+    ensures { λ r. ⌜ r ≡ functions .answer (now (image .entry)) (now (psus .entry)) (now (chargers .entry)) answer .number ⌝ }
+    ensures { λ _. ⌜ now (image .exit) ≡ functions .answer (now (image .entry)) (now (psus .entry)) (now (chargers .entry)) answer .bytes ⌝ }
 {
     service_calls::give_answer(image, psus, chargers, answer)
 }
@@ -69,7 +67,7 @@ pub extern "C" fn power_policy_answer(
 // The open order, or how the event closed last.
 #[no_mangle]
 pub extern "C" fn power_policy_order(image: &[u8]) -> u64
-    ensures { λ r. ⌜ r ≡ orderCall (serviceFrom (now (image .entry))) ⌝ }
+    ensures { λ r. ⌜ r ≡ functions .order (now (image .entry)) ⌝ }
 {
     service_calls::read_order(image)
 }
@@ -77,8 +75,8 @@ pub extern "C" fn power_policy_order(image: &[u8]) -> u64
 // The packet of the event closed last, from the front of the buffer on.
 #[no_mangle]
 pub extern "C" fn power_policy_write_packet(image: &[u8], buffer: &mut [u8]) -> u64
-    ensures { λ r. ⌜ r ≡ writePacketCall (serviceFrom (now (image .entry))) (now (buffer .entry)) .number ⌝ }
-    ensures { λ _. ⌜ now (buffer .exit) ≡ writePacketCall (serviceFrom (now (image .entry))) (now (buffer .entry)) .bytes ⌝ }
+    ensures { λ r. ⌜ r ≡ functions .write-packet (now (image .entry)) (now (buffer .entry)) .number ⌝ }
+    ensures { λ _. ⌜ now (buffer .exit) ≡ functions .write-packet (now (image .entry)) (now (buffer .entry)) .bytes ⌝ }
 {
     service_calls::write_packet(image, buffer)
 }
@@ -86,8 +84,8 @@ pub extern "C" fn power_policy_write_packet(image: &[u8], buffer: &mut [u8]) -> 
 // The full picture of what is held, from the front of the buffer on.
 #[no_mangle]
 pub extern "C" fn power_policy_write_picture(image: &[u8], buffer: &mut [u8]) -> u64
-    ensures { λ r. ⌜ r ≡ writePictureCall (serviceFrom (now (image .entry))) (now (buffer .entry)) .number ⌝ }
-    ensures { λ _. ⌜ now (buffer .exit) ≡ writePictureCall (serviceFrom (now (image .entry))) (now (buffer .entry)) .bytes ⌝ }
+    ensures { λ r. ⌜ r ≡ functions .write-picture (now (image .entry)) (now (buffer .entry)) .number ⌝ }
+    ensures { λ _. ⌜ now (buffer .exit) ≡ functions .write-picture (now (image .entry)) (now (buffer .entry)) .bytes ⌝ }
 {
     service_calls::write_picture(image, buffer)
 }
@@ -95,8 +93,8 @@ pub extern "C" fn power_policy_write_picture(image: &[u8], buffer: &mut [u8]) ->
 // A fresh follower, in bytes of any content and of an image's length.
 #[no_mangle]
 pub extern "C" fn power_policy_follower_start(image: &mut [u8]) -> u64
-    ensures { λ r. ⌜ r ≡ followerStartCall (now (image .entry)) .number ⌝ }
-    ensures { λ _. ⌜ now (image .exit) ≡ followerStartCall (now (image .entry)) .bytes ⌝ }
+    ensures { λ r. ⌜ r ≡ functions .follower-start (now (image .entry)) .number ⌝ }
+    ensures { λ _. ⌜ now (image .exit) ≡ functions .follower-start (now (image .entry)) .bytes ⌝ }
 {
     follower_calls::start(image)
 }
@@ -104,8 +102,8 @@ pub extern "C" fn power_policy_follower_start(image: &mut [u8]) -> u64
 // Hands a packet or picture to the follower.
 #[no_mangle]
 pub extern "C" fn power_policy_follower_take(image: &mut [u8], packet: &[u8]) -> u64
-    ensures { λ r. ⌜ r ≡ takeCall (now (image .entry)) (now (packet .entry)) .number ⌝ }
-    ensures { λ _. ⌜ now (image .exit) ≡ takeCall (now (image .entry)) (now (packet .entry)) .bytes ⌝ }
+    ensures { λ r. ⌜ r ≡ functions .take (now (image .entry)) (now (packet .entry)) .number ⌝ }
+    ensures { λ _. ⌜ now (image .exit) ≡ functions .take (now (image .entry)) (now (packet .entry)) .bytes ⌝ }
 {
     follower_calls::take(image, packet)
 }
@@ -113,7 +111,7 @@ pub extern "C" fn power_policy_follower_take(image: &mut [u8], packet: &[u8]) ->
 // Lost, or the number shown, whether level or waiting, and the unconstrained figures.
 #[no_mangle]
 pub extern "C" fn power_policy_follower_shown(image: &[u8]) -> u64
-    ensures { λ r. ⌜ r ≡ shownCall (followerFrom (now (image .entry))) ⌝ }
+    ensures { λ r. ⌜ r ≡ functions .shown (now (image .entry)) ⌝ }
 {
     follower_calls::shown(image)
 }
@@ -121,7 +119,7 @@ pub extern "C" fn power_policy_follower_shown(image: &[u8]) -> u64
 // The consumer shown; none if lost.
 #[no_mangle]
 pub extern "C" fn power_policy_follower_consumer(image: &[u8]) -> u64
-    ensures { λ r. ⌜ r ≡ consumerCall (followerFrom (now (image .entry))) ⌝ }
+    ensures { λ r. ⌜ r ≡ functions .consumer (now (image .entry)) ⌝ }
 {
     follower_calls::consumer(image)
 }
@@ -129,7 +127,7 @@ pub extern "C" fn power_policy_follower_consumer(image: &[u8]) -> u64
 // The ports shown as tracked; none if lost.
 #[no_mangle]
 pub extern "C" fn power_policy_follower_tracked(image: &[u8]) -> u64
-    ensures { λ r. ⌜ r ≡ trackedCall (followerFrom (now (image .entry))) ⌝ }
+    ensures { λ r. ⌜ r ≡ functions .tracked (now (image .entry)) ⌝ }
 {
     follower_calls::tracked(image)
 }

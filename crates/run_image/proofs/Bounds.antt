@@ -1,31 +1,47 @@
--- Byte 36 of a well-formed service's image is the number of its orders, which is bounded, and so is what is left of an open event (invariant Bound.antt).
-use mathlib.Core.Path.{_≡_, refl, sym, subst}
+-- Along a run the number of orders given is that of the machine, which is bounded, and so is what is left of an open event (invariant Bound.antt).
+use mathlib.Core.Path.{_≡_, refl, sym, ap, _∙_, subst}
 use Prim.Native.Nat.{ℕ, _+_, _*_, _-_, _≤_}
 use mathlib.Core.List.{List}
-use lib.ListN.{getD}
+use lib.ListN.{length}
+use Rattle.event.specs.declared.phase.Order.{Order}
 use Rattle.service.specs.declared.Service.{Service}
 use Rattle.interaction.specs.Action.{Interaction, done, ask}
 use Rattle.interaction.specs.Machine.{standsAt}
 use Rattle.interaction.specs.Served.{AtMost}
-use Rattle.run.specs.Policy.{Policy, Stand}
+use Rattle.run.specs.Orders.{Counted}
+use Rattle.run.specs.Policy.{Policy, Stand, between, at}
 use Rattle.run.specs.Demands.{standOf, Equal}
-use Rattle.service_image.specs.Image.{serviceBytes}
 use Rattle.invariant.proofs.Good.{Good}
 use Rattle.invariant.proofs.Bound.{good-orders, good-rest}
-use Rattle.run_image.specs.Demands.{Ends}
+use Rattle.run_image.specs.Definition.{Closes}
 
-pub orders-at : (s : Service) → getD (serviceBytes s) 36 0 ≡ s .orders
-unfolding serviceBytes
-orders-at s = refl
+closes-at : (chargers n : ℕ) (i : Interaction) → AtMost (4 + 4 * chargers - n) i → Closes chargers (standOf n i)
+closes-at chargers n (done a h) m = tt
+closes-at chargers n (ask o k) m = m
 
-pub orders-bound : (s : Service) → Good s → getD (serviceBytes s) 36 0 ≤ 3 + 4 * s .registration .chargers
-orders-bound s h = subst (λ (n : ℕ). n ≤ 3 + 4 * s .registration .chargers) (sym (orders-at s)) (good-orders s h)
+pub stand-closes : (s : Service) (p : Policy) → Good s → Equal s p → Closes (s .registration .chargers) (p .stand)
+stand-closes s p h q =
+    subst (λ (x : Stand). Closes (s .registration .chargers) x) (q .stand)
+    (closes-at (s .registration .chargers) (s .orders) (standsAt (s .registration) (s .phase) (s .memory)) (good-rest s h))
 
-ends-at : (chargers : ℕ) (image : List ℕ) (n : ℕ) (i : Interaction) → getD image 36 0 ≡ n → AtMost (4 + 4 * chargers - n) i → Ends chargers image (standOf n i)
-ends-at chargers image n (done a h) e m = tt
-ends-at chargers image n (ask o k) e m = (e, m)
+-- the number of orders given so far, or by the event closed last
+abbrev given : Stand → ℕ → ℕ
+given between orders = orders
+given (at n o k) orders = n
 
-pub stand-ends : (s : Service) (p : Policy) → Good s → Equal s p → Ends (s .registration .chargers) (serviceBytes s) (p .stand)
-stand-ends s p h q =
-    subst (λ (x : Stand). Ends (s .registration .chargers) (serviceBytes s) x) (q .stand)
-    (ends-at (s .registration .chargers) (serviceBytes s) (s .orders) (standsAt (s .registration) (s .phase) (s .memory)) (orders-at s) (good-rest s h))
+given-at : (n orders : ℕ) (i : Interaction) → (standOf n i ≡ between → n ≡ orders) → given (standOf n i) orders ≡ n
+given-at n orders (done a h) e = sym (e refl)
+given-at n orders (ask o k) e = refl
+
+counted-given : (x : Stand) (orders : ℕ) (l : List Order) → Counted x orders l → length l ≡ given x orders
+counted-given between orders l c = sym c
+counted-given (at n o k) orders l c = sym c
+
+pub orders-bound : (s : Service) (p : Policy) (l : List Order) → Good s → Equal s p → Counted (p .stand) (p .orders) l → length l ≤ 3 + 4 * s .registration .chargers
+orders-bound s p l h q c =
+    subst (λ (n : ℕ). n ≤ 3 + 4 * s .registration .chargers)
+    (sym
+    (counted-given (p .stand) (p .orders) l c
+    ∙ (ap (λ (x : Stand). given x (p .orders)) (sym (q .stand))
+    ∙ given-at (s .orders) (p .orders) (standsAt (s .registration) (s .phase) (s .memory)) (λ e. q .orders (sym (q .stand) ∙ e)))))
+    (good-orders s h)

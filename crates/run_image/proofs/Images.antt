@@ -30,9 +30,12 @@ use Rattle.service_image.proofs.Service.{service-read-write}
 use Rattle.service_image.proofs.Stored.{service-length}
 use Rattle.invariant.proofs.Good.{Good}
 use Rattle.invariant.proofs.Invariant.{services-good}
-use Rattle.calls.specs.Calls.{putService, steppedAt, steppedCall, refusedCall, withRows, rowsIn, onService}
+use Rattle.calls.specs.Called.{refusedCall}
+use Rattle.calls.specs.Lent.{rowsIn}
+use Rattle.calls.specs.Calls.{putService, steppedAt, steppedCall, withRows, onService}
 use Rattle.calls.specs.declared.rows.Rows.{Rows}
-use Rattle.run_image.specs.Calls.{ByteCall, openEvent, giveAnswer, readOrder, writePacket, writePicture, imageAfter, images, CallBytes, CallsBytes}
+use Rattle.exported.specs.Calls.{ByteCall, openEvent, giveAnswer, readOrder, writePacket, writePicture, imageAfter, images, CallBytes, CallsBytes}
+use Rattle.exported.specs.Ours.{functions}
 use Rattle.run_image.specs.Definition.{onRows, callOf, callsOf}
 
 -- what a call leaves of the service
@@ -40,7 +43,7 @@ use Rattle.run_image.specs.Definition.{onRows, callOf, callsOf}
 -- turned back, the service is as it was
 abbrev BackAt : Service → Step → Service → Type 0
 BackAt s (Step.Order o) t = Unit {0}
-BackAt s (Step.Closed a) t = Unit {0}
+BackAt s (Step.Closed a n) t = Unit {0}
 BackAt s (Step.Refused n) t = t ≡ s
 
 -- and in any case what is registered is
@@ -61,7 +64,7 @@ open-keeps s kind device detail r = go (eqb n 0) (eqb kind 5)
     t : Turn
     t = processOf (s .registration) (clearedOf s) device (eventOf kind detail) r
 
-    go : (a b : Bool) → Keeps s (cond a (cond b (stepped (Step.Closed Result.Ok) s) (openedOf s device (eventOf kind detail) r)) (refused n s))
+    go : (a b : Bool) → Keeps s (cond a (cond b (stepped (Step.Closed Result.Ok 0) s) (openedOf s device (eventOf kind detail) r)) (refused n s))
     go true true = record { back = tt; registered = refl }
     go true false = moved-keeps s (orderOf (t .phase)) (s .number) 0 t
     go false b = record { back = refl; registered = refl }
@@ -136,7 +139,7 @@ put-is s t = ap (λ (x : Bool). cond x (serviceBytes t) (serviceBytes s)) (eq-eq
 
 stepped-bytes : (s : Service) (x : Step) (t : Service) → BackAt s x t → steppedAt (serviceBytes s) x t .bytes ≡ serviceBytes t
 stepped-bytes s (Step.Order o) t b = put-is s t
-stepped-bytes s (Step.Closed a) t b = put-is s t
+stepped-bytes s (Step.Closed a n) t b = put-is s t
 stepped-bytes s (Step.Refused n) t b = ap serviceBytes (sym b)
 
 rows-bytes : (s : Service) (r : Rows) (f : Records → Stepped) (c : Records → Call) → ((x : Records) → Keeps s (f x)) → ((x : Records) → f x .service ≡ after s (c x)) →
@@ -147,7 +150,7 @@ rows-bytes s r f c k e = go (r .ok)
     go true = stepped-bytes s (f (r .records) .step) (f (r .records) .service) (k (r .records) .back) ∙ ap serviceBytes (e (r .records))
     go false = refl
 
-pub image-after : (s : Service) (c : ByteCall) → Good s → imageAfter (serviceBytes s) c ≡ serviceBytes (services s (callOf (s .registration) c))
+pub image-after : (s : Service) (c : ByteCall) → Good s → imageAfter functions (serviceBytes s) c ≡ serviceBytes (services s (callOf (s .registration) c))
 image-after s (openEvent psus chargers kind device detail) h =
     ap (λ (x : ReadService). onService (serviceBytes s) x psus chargers (λ t r. openOf t kind device detail r) .bytes) (image-read s h)
     ∙ rows-bytes s (rowsIn (s .registration) psus chargers) (λ r. openOf s kind device detail r) (λ r. policy.openEvent kind device detail r)
@@ -172,12 +175,12 @@ call-good s c b h = services-good (callOf (s .registration) c) s (call-fits (s .
 
 -- a list of them
 
-pub images-are : (l : List ByteCall) (s : Service) → CallsBytes l → Good s → images (serviceBytes s) l ≡ serviceBytes (services s (callsOf (s .registration) l))
+pub images-are : (l : List ByteCall) (s : Service) → CallsBytes l → Good s → images functions (serviceBytes s) l ≡ serviceBytes (services s (callsOf (s .registration) l))
 images-are [] s b h = refl
 images-are (c ∷ l) s b h =
     let g = s .registration in
     let t = services s (callOf g c) in
-    ap (λ (x : List ℕ). images x l) (image-after s c h)
+    ap (λ (x : List ℕ). images functions x l) (image-after s c h)
     ∙ (images-are l t (b .1) (call-good s c (b .0) h)
     ∙ (ap (λ (x : Registration). serviceBytes (services t (callsOf x l))) (services-registration (callOf g c) s)
     ∙ ap serviceBytes (sym (services-on (callOf g c) (callsOf g l) s))))

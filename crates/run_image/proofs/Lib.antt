@@ -1,11 +1,9 @@
 pub mod Images
-pub mod Numbers
+pub mod Returns
 pub mod Turned
 pub mod Lowest
-pub mod Returns
+pub mod Reached
 pub mod Bounds
 pub mod Written
 pub mod Takes
-pub mod Readers
-pub mod Linked
-pub mod Demands
+pub mod Ranges

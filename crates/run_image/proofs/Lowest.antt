@@ -31,17 +31,21 @@ use Rattle.wire.specs.Bytes.{eventBytes, pictureBytes}
 use Rattle.wire_writer.specs.declared.Written.{Written}
 use Rattle.service_image.specs.Image.{serviceBytes, serviceFrom}
 use Rattle.service_image.specs.declared.ReadService.{ReadService}
-use Rattle.calls.specs.Calls.{steppedCall, called, refusedCall, rowsIn, onService, standNumber, orderCall, writtenAs, writtenCall, packetCall, pictureCall, writePacketCall, writePictureCall, startCall, startedCall}
+use Rattle.calls.specs.Called.{called, refusedCall}
+use Rattle.calls.specs.Lent.{rowsIn, writtenAs, writtenCall, packetCall, pictureCall}
+use Rattle.calls.specs.Calls.{steppedCall, onService, standNumber, orderCall, writePacketCall, writePictureCall, startCall, startedCall}
 use Rattle.calls.specs.Numbers.{refusedNumber, writtenNumber, doneNumber}
 use Rattle.calls.specs.declared.rows.Rows.{Rows}
-use Rattle.run_image.specs.Calls.{ByteCall, openEvent, giveAnswer, readOrder, writePacket, writePicture, returned}
-use Rattle.run_image.specs.Refused.{ofImage, ofRecords, short, conditions, startConditions, Refuses}
-use Rattle.run_image.proofs.Numbers.{order-low, closed-low, written-low, done-low}
+use Rattle.exported.specs.Calls.{ByteCall, openEvent, giveAnswer, readOrder, writePacket, writePicture, returned}
+use Rattle.exported.specs.Ours.{functions}
+use Rattle.run_image.specs.Definition.{wrongRows, short, startConditions, Refuses}
+use Rattle.run_image.specs.Refused.{ofImage, conditions}
+use Rattle.calls.proofs.Results.{order-low, closed-low, written-low, done-low}
 
 -- an order and a close have another low byte than a refusal
 
 moved-low : (b : List ℕ) (o : OptionOrder) (g : Registration) (n k : ℕ) (t : Turn) → steppedCall b (movedBy o g n k t) .number % 256 ≡ 0 → ⊥
-moved-low b OptionOrder.None g n k t e = let q : _≡_ {A = ℕ} 2 0 = sym (closed-low (answerIn (t .phase))) ∙ e in omega (arith, q)
+moved-low b OptionOrder.None g n k t e = let q : _≡_ {A = ℕ} 2 0 = sym (closed-low (answerIn (t .phase)) k) ∙ e in omega (arith, q)
 moved-low b (OptionOrder.Some o) g n k t e = let q : _≡_ {A = ℕ} 1 0 = sym (order-low o) ∙ e in omega (arith, q)
 
 -- a call that makes a step: 21 and 22, then the first number of a list decides
@@ -49,7 +53,7 @@ moved-low b (OptionOrder.Some o) g n k t e = let q : _≡_ {A = ℕ} 1 0 = sym (
 step-refuses : (b : List ℕ) (s : Service) (psus chargers : List ℕ) (l : List (Bool × ℕ)) (x : Records → Stepped)
     → ((t : Bool) → Lowest ((false, 21) ∷ (t, 22) ∷ l) (cond t 22 (firstRefused l)))
     → ((r : Records) → steppedCall b (x r) .number % 256 ≡ 0 → ⊥)
-    → Refuses (ofImage (ReadService.Read s) (λ s. ofRecords s psus chargers l))
+    → Refuses (ofImage (ReadService.Read s) (λ s. wrongRows (s .registration) psus chargers ∷ l))
     (onService b (ReadService.Read s) psus chargers (λ s r. cond (eqb (firstRefused l) 0) (x r) (refused (firstRefused l) s)) .number)
 step-refuses b s psus chargers l x low free = go (rows .ok)
   where
@@ -75,20 +79,20 @@ step-refuses b s psus chargers l x low free = go (rows .ok)
 -- open and answer
 
 opened-low : (b : List ℕ) (s : Service) (kind device detail : ℕ) (r : Records) (t : Bool)
-    → steppedCall b (cond t (stepped (Step.Closed Result.Ok) s) (openedOf s device (eventOf kind detail) r)) .number % 256 ≡ 0 → ⊥
-opened-low b s kind device detail r true e = let q : _≡_ {A = ℕ} 2 0 = sym (closed-low Result.Ok) ∙ e in omega (arith, q)
+    → steppedCall b (cond t (stepped (Step.Closed Result.Ok 0) s) (openedOf s device (eventOf kind detail) r)) .number % 256 ≡ 0 → ⊥
+opened-low b s kind device detail r true e = let q : _≡_ {A = ℕ} 2 0 = sym (closed-low Result.Ok 0) ∙ e in omega (arith, q)
 opened-low b s kind device detail r false e =
     let t = processOf (s .registration) (clearedOf s) device (eventOf kind detail) r in
     moved-low b (orderOf (t .phase)) (s .registration) (s .number) 0 t e
 
 open-refuses : (b : List ℕ) (r : ReadService) (psus chargers : List ℕ) (kind device detail : ℕ)
-    → Refuses (ofImage r (λ s. ofRecords s psus chargers (openRefusals s kind device detail)))
+    → Refuses (ofImage r (λ s. wrongRows (s .registration) psus chargers ∷ openRefusals s kind device detail))
     (onService b r psus chargers (λ s x. openOf s kind device detail x) .number)
 open-refuses b ReadService.Refused psus chargers kind device detail =
     record { lowest = lowest _ refl; turned-back = λ z. refl; accepted = λ e. absurd (omega (arith, e)) }
 open-refuses b (ReadService.Read s) psus chargers kind device detail =
     step-refuses b s psus chargers (openRefusals s kind device detail)
-    (λ r. cond (eqb kind 5) (stepped (Step.Closed Result.Ok) s) (openedOf s device (eventOf kind detail) r))
+    (λ r. cond (eqb kind 5) (stepped (Step.Closed Result.Ok 0) s) (openedOf s device (eventOf kind detail) r))
     (λ t. lowest _ refl) (λ r. opened-low b s kind device detail r (eqb kind 5))
 
 answered-low : (b : List ℕ) (s : Service) (o : Order) (a : Result) (r : Records) → steppedCall b (answeredBy s o a r) .number % 256 ≡ 0 → ⊥
@@ -97,7 +101,7 @@ answered-low b s o a r e =
     moved-low b (orderOf (t .phase)) (s .registration) (s .number) (s .orders) t e
 
 answer-refuses : (b : List ℕ) (r : ReadService) (psus chargers : List ℕ) (a : ℕ)
-    → Refuses (ofImage r (λ s. ofRecords s psus chargers (answerRefusals s a))) (onService b r psus chargers (λ s x. answerOf s a x) .number)
+    → Refuses (ofImage r (λ s. wrongRows (s .registration) psus chargers ∷ answerRefusals s a)) (onService b r psus chargers (λ s x. answerOf s a x) .number)
 answer-refuses b ReadService.Refused psus chargers a =
     record { lowest = lowest _ refl; turned-back = λ z. refl; accepted = λ e. absurd (omega (arith, e)) }
 answer-refuses b (ReadService.Read s) psus chargers a =
@@ -106,14 +110,14 @@ answer-refuses b (ReadService.Read s) psus chargers a =
 
 -- order
 
-stand-low : (o : OptionOrder) (p : Phase) → standNumber o p % 256 ≡ 0 → ⊥
-stand-low OptionOrder.None p e = let q : _≡_ {A = ℕ} 2 0 = sym (closed-low (answerIn p)) ∙ e in omega (arith, q)
-stand-low (OptionOrder.Some o) p e = let q : _≡_ {A = ℕ} 1 0 = sym (order-low o) ∙ e in omega (arith, q)
+stand-low : (o : OptionOrder) (p : Phase) (n : ℕ) → standNumber o p n % 256 ≡ 0 → ⊥
+stand-low OptionOrder.None p n e = let q : _≡_ {A = ℕ} 2 0 = sym (closed-low (answerIn p) n) ∙ e in omega (arith, q)
+stand-low (OptionOrder.Some o) p n e = let q : _≡_ {A = ℕ} 1 0 = sym (order-low o) ∙ e in omega (arith, q)
 
 order-refuses : (r : ReadService) → Refuses (ofImage r (λ s. [])) (orderCall r)
 order-refuses ReadService.Refused = record { lowest = lowest _ refl; turned-back = λ z. refl; accepted = λ e. absurd (omega (arith, e)) }
 order-refuses (ReadService.Read s) =
-    record { lowest = lowest _ refl; turned-back = λ z. absurd (z refl); accepted = λ e. stand-low (orderOf (s .phase)) (s .phase) }
+    record { lowest = lowest _ refl; turned-back = λ z. absurd (z refl); accepted = λ e. stand-low (orderOf (s .phase)) (s .phase) (s .orders) }
 
 -- the writes: the buffer is looked at last
 
@@ -154,7 +158,7 @@ picture-refuses (ReadService.Read s) buffer = go (isOpen (s .phase)) (ltb (lengt
     go false t e = written-at _ (pictureBytes (pictureOf s)) buffer t e (lowest _ refl) refl
 
 -- every call, on any bytes
-pub call-refuses : (b : List ℕ) (c : ByteCall) → Refuses (conditions b c) (returned b c)
+pub call-refuses : (b : List ℕ) (c : ByteCall) → Refuses (conditions b c) (returned functions b c)
 call-refuses b (openEvent psus chargers kind device detail) = open-refuses b (serviceFrom b) psus chargers kind device detail
 call-refuses b (giveAnswer psus chargers a) = answer-refuses b (serviceFrom b) psus chargers a
 call-refuses b readOrder = order-refuses (serviceFrom b)

@@ -4,6 +4,7 @@ use mathlib.Core.Path.{_≡_, refl, ap, _∙_}
 use mathlib.Core.Bool.{Bool, true, false, cond}
 use mathlib.Core.List.{List}
 use Prim.Native.Nat.{ℕ}
+use Rattle.power_policy_interface.specs.declared.psu.Result.{Result}
 use Rattle.event.specs.Phase.{orderOf}
 use Rattle.event.specs.declared.memory.Records.{Records}
 use Rattle.event.specs.declared.memory.Registration.{Registration}
@@ -14,22 +15,25 @@ use Rattle.service.specs.declared.Step.{Step}
 use Rattle.service.specs.declared.Stepped.{Stepped}
 use Rattle.send.specs.declared.SentPacket.{SentPacket}
 use Rattle.send.specs.declared.SentPicture.{SentPicture}
-use Rattle.run.specs.Policy.{Policy, Stand, between, at}
+use Rattle.run.specs.Policy.{Policy, Stand, between, at, orderAt}
 use Rattle.run.specs.Run.{openTo, answerTo}
-use Rattle.run.specs.Demands.{orderAt, Equal}
+use Rattle.run.specs.Demands.{Equal}
 use Rattle.service_image.specs.Image.{serviceBytes}
 use Rattle.service_image.specs.declared.ReadService.{ReadService}
 use Rattle.invariant.proofs.Good.{Good}
-use Rattle.calls.specs.Calls.{steppedAt, steppedCall, refusedCall, withRows, rowsIn, onService, standNumber, orderCall, packetCall, pictureCall, writePacketCall, writePictureCall}
+use Rattle.calls.specs.Called.{refusedCall}
+use Rattle.calls.specs.Lent.{rowsIn, packetCall, pictureCall}
+use Rattle.calls.specs.Calls.{steppedAt, steppedCall, withRows, onService, standNumber, orderCall, writePacketCall, writePictureCall}
 use Rattle.calls.specs.Numbers.{refusedNumber, closedNumber, stepNumber}
 use Rattle.calls.specs.declared.rows.Rows.{Rows}
-use Rattle.run_image.specs.Calls.{ByteCall, openEvent, giveAnswer, readOrder, writePacket, writePicture, returned, bufferAfter}
+use Rattle.exported.specs.Calls.{ByteCall, openEvent, giveAnswer, readOrder, writePacket, writePicture, returned, bufferAfter}
+use Rattle.exported.specs.Ours.{functions}
 use Rattle.run_image.specs.Definition.{rowsTo, standTo, returnTo, bufferTo}
 use Rattle.run_image.proofs.Images.{image-read}
 
 stepped-number : (b : List ℕ) (x : Step) (t : Service) → steppedAt b x t .number ≡ stepNumber x
 stepped-number b (Step.Order o) t = refl
-stepped-number b (Step.Closed a) t = refl
+stepped-number b (Step.Closed a n) t = refl
 stepped-number b (Step.Refused n) t = refl
 
 rows-number : (b : List ℕ) (r : Rows) (f : Records → Stepped) (k : Records → Step) → ((x : Records) → f x .step ≡ k x) →
@@ -41,12 +45,14 @@ rows-number b r f k e = go (r .ok)
     go false = refl
 
 stand-number : (s : Service) (p : Policy) (x : Stand) → orderOf (s .phase) ≡ orderAt x → (x ≡ between → answerIn (s .phase) ≡ p .answer) →
-    standNumber (orderOf (s .phase)) (s .phase) ≡ standTo x p
-stand-number s p between e a = ap (λ (o : OptionOrder). standNumber o (s .phase)) e ∙ ap closedNumber (a refl)
-stand-number s p (at n o k) e a = ap (λ (q : OptionOrder). standNumber q (s .phase)) e
+    (x ≡ between → s .orders ≡ p .orders) → standNumber (orderOf (s .phase)) (s .phase) (s .orders) ≡ standTo x p
+stand-number s p between e a n =
+    ap (λ (o : OptionOrder). standNumber o (s .phase) (s .orders)) e
+    ∙ (ap (λ (x : Result). closedNumber x (s .orders)) (a refl) ∙ ap (closedNumber (p .answer)) (n refl))
+stand-number s p (at n o k) e a m = ap (λ (q : OptionOrder). standNumber q (s .phase) (s .orders)) e
 
 module _ (s : Service) (p : Policy) (h : Good s) (q : Equal s p) where
-  pub returns-are : (c : ByteCall) → returned (serviceBytes s) c ≡ returnTo p c
+  pub returns-are : (c : ByteCall) → returned functions (serviceBytes s) c ≡ returnTo p c
   returns-are (openEvent psus chargers kind device detail) =
       ap (λ (x : ReadService). onService (serviceBytes s) x psus chargers (λ t r. openOf t kind device detail r) .number) (image-read s h)
       ∙ (rows-number (serviceBytes s) (rowsIn (s .registration) psus chargers) (λ r. openOf s kind device detail r) (λ r. openTo p kind device detail r)
@@ -56,13 +62,13 @@ module _ (s : Service) (p : Policy) (h : Good s) (q : Equal s p) where
       ap (λ (x : ReadService). onService (serviceBytes s) x psus chargers (λ t r. answerOf t a r) .number) (image-read s h)
       ∙ (rows-number (serviceBytes s) (rowsIn (s .registration) psus chargers) (λ r. answerOf s a r) (λ r. answerTo (p .stand) a r) (λ r. q .answering a r)
       ∙ ap (λ (g : Registration). rowsTo (rowsIn g psus chargers) (λ r. stepNumber (answerTo (p .stand) a r))) (q .registered))
-  returns-are readOrder = ap orderCall (image-read s h) ∙ stand-number s p (p .stand) (q .order) (q .answer)
+  returns-are readOrder = ap orderCall (image-read s h) ∙ stand-number s p (p .stand) (q .order) (q .answer) (q .orders)
   returns-are (writePacket buffer) =
       ap (λ (x : ReadService). writePacketCall x buffer .number) (image-read s h) ∙ ap (λ (x : SentPacket). packetCall x buffer .number) (q .packet)
   returns-are (writePicture buffer) =
       ap (λ (x : ReadService). writePictureCall x buffer .number) (image-read s h) ∙ ap (λ (x : SentPicture). pictureCall x buffer .number) (q .picture)
 
-  pub buffers-are : (c : ByteCall) → bufferAfter (serviceBytes s) c ≡ bufferTo p c
+  pub buffers-are : (c : ByteCall) → bufferAfter functions (serviceBytes s) c ≡ bufferTo p c
   buffers-are (openEvent psus chargers kind device detail) = refl
   buffers-are (giveAnswer psus chargers a) = refl
   buffers-are readOrder = refl

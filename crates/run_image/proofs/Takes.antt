@@ -1,12 +1,12 @@
 -- The follower's image through takes: the bytes of a follower that has an image are read as it, so that a take leaves the bytes of the follower after
--- it. It still has an image, since a packet that the link carries is well formed, and bytes that are turned back change nothing.
+-- it. It still has an image, since a packet that is read from bytes or that the link carries is well formed, and bytes that are turned back change nothing.
 use mathlib.Core.Path.{_≡_, refl, sym, ap, _∙_, subst}
 use mathlib.Core.Bool.{Bool, true, cond}
 use mathlib.Core.List.{List, [], _∷_}
 use Prim.Native.Nat.{ℕ}
 use lib.ListN.{length}
 use borrow.Author.Tests.{eq-eqb}
-use Rattle.display.specs.declared.Display.{Display}
+use Rattle.records.specs.Row.{AllBytes}
 use Rattle.wire.specs.Read.{readPacket}
 use Rattle.wire.specs.declared.packet.ReadPacket.{ReadPacket}
 use Rattle.follower.specs.Follower.{fresh, taken}
@@ -14,16 +14,18 @@ use Rattle.follower.specs.declared.Follower.{Follower}
 use Rattle.link.specs.Link.{after}
 use Rattle.link.specs.Source.{Source}
 use Rattle.link.specs.Takes as link
-use Rattle.link.specs.Takes.{takenRead, take, Handed, copy, turned-back, AllHanded, Lost, Shows}
+use Rattle.link.specs.Takes.{takenRead, take, Handed, copy, turned-back, AllHanded}
 use Rattle.link.proofs.Lists.{read-back}
 use Rattle.follower_image.specs.Fits.{imageFits}
 use Rattle.follower_image.specs.Image.{followerBytes, followerFrom}
 use Rattle.follower_image.specs.declared.ReadFollower.{ReadFollower}
 use Rattle.follower_image.proofs.OneImage.{follower-length, follower-read-write, fresh-fits}
-use Rattle.follower_image.proofs.Takes.{packet-fits}
-use Rattle.calls.specs.Calls.{Called, called, refusedCall, putFollower, takenCall, takeCall, followerStartCall}
+use Rattle.follower_image.proofs.Takes as image
+use Rattle.calls.specs.Called.{Called, called, refusedCall}
+use Rattle.calls.specs.Calls.{putFollower, takenCall, takeCall, followerStartCall}
 use Rattle.calls.specs.Numbers.{doneNumber}
-use Rattle.run_image.specs.Takes.{takes, taking, takeTo, LostOn, ShowsOn}
+use Rattle.exported.specs.Calls.{takesOn, desk, EachBytes}
+use Rattle.exported.specs.Ours.{functions}
 
 -- one take
 
@@ -40,68 +42,64 @@ take-bytes f x h =
     (follower-read-write f h)
     ∙ taken-bytes f (readPacket x)
 
-taken-number : (b : List ℕ) (f : Follower) (y : ReadPacket) → takenCall b f y .number ≡ takeTo y
-taken-number b f (ReadPacket.Refused n) = refl
-taken-number b f (ReadPacket.Packet p) = refl
-
 -- a start
 
 started-bytes : (b : List ℕ) → length b ≡ 241 → followerStartCall b .bytes ≡ followerBytes fresh
 started-bytes b e = ap (λ (x : Bool). cond {A = Called} x (called doneNumber (followerBytes fresh)) (refusedCall 21 b) .bytes) (eq-eqb (length b) 241 e)
 
--- takes of what the link hands over
+-- takes that leave a follower that has an image
 
-module _ (source : Source) where
-  take-fits : (f : Follower) (x : List ℕ) → Handed source x → imageFits f ≡ true → imageFits (take f x) ≡ true
-  take-fits f x (copy p w e) h =
-      subst (λ (y : ReadPacket). imageFits (takenRead f y) ≡ true) (sym (read-back source p x w e)) (packet-fits f p h (source .fits p w))
-  take-fits f x (turned-back n e) h = subst (λ (y : ReadPacket). imageFits (takenRead f y) ≡ true) (sym e) h
+pub record Keeps (x : List ℕ) : Type 0 where
+  pub fits : (f : Follower) → imageFits f ≡ true → imageFits (take f x) ≡ true
 
-  -- a list of them
+abbrev pub AllKeep : List (List ℕ) → Type 0
+AllKeep [] = Unit {0}
+AllKeep (x ∷ l) = Keeps x × AllKeep l
 
-  takes-bytes : (l : List (List ℕ)) (f : Follower) → AllHanded source l → imageFits f ≡ true → takes (followerBytes f) l ≡ followerBytes (link.takes f l)
-  takes-bytes [] f a h = refl
-  takes-bytes (x ∷ l) f a h =
-      ap (λ (b : List ℕ). takes b l) (take-bytes f x h) ∙ takes-bytes l (take f x) (a .1) (take-fits f x (a .0) h)
+-- bytes
+bytes-keep : (x : List ℕ) → AllBytes x → Keeps x
+bytes-keep x a = record { fits = λ f h. go f h (readPacket x) refl }
+  where
+    go : (f : Follower) → imageFits f ≡ true → (r : ReadPacket) → readPacket x ≡ r → imageFits (takenRead f r) ≡ true
+    go f h (ReadPacket.Refused n) e = h
+    go f h (ReadPacket.Packet p) e = image.take-fits f x p h a e
 
-  takes-fit : (l : List (List ℕ)) (f : Follower) → AllHanded source l → imageFits f ≡ true → imageFits (link.takes f l) ≡ true
-  takes-fit [] f a h = h
-  takes-fit (x ∷ l) f a h = takes-fit l (take f x) (a .1) (take-fits f x (a .0) h)
+pub each-keeps : (l : List (List ℕ)) → EachBytes l → AllKeep l
+each-keeps [] b = tt
+each-keeps (x ∷ l) b = (bytes-keep x (b .0), each-keeps l (b .1))
 
-  -- from a fresh follower's image
+-- what the link hands over
+handed-keeps : (source : Source) (x : List ℕ) → Handed source x → Keeps x
+handed-keeps source x (copy p w e) =
+    record {
+      fits = λ f h.
+          subst (λ (y : ReadPacket). imageFits (takenRead f y) ≡ true) (sym (read-back source p x w e)) (image.packet-fits f p h (source .fits p w));
+    }
+handed-keeps source x (turned-back n e) = record { fits = λ f h. subst (λ (y : ReadPacket). imageFits (takenRead f y) ≡ true) (sym e) h }
 
-  taking-read : (b : List ℕ) (l : List (List ℕ)) → length b ≡ 241 → AllHanded source l → followerFrom (taking b l) ≡ record { ok = true; follower = after l }
-  taking-read b l e a =
-      ap followerFrom (ap (λ (x : List ℕ). takes x l) (started-bytes b e) ∙ takes-bytes l fresh a fresh-fits)
-      ∙ follower-read-write (after l) (takes-fit l fresh a fresh-fits)
+pub all-keep : (source : Source) (l : List (List ℕ)) → AllHanded source l → AllKeep l
+all-keep source [] q = tt
+all-keep source (x ∷ l) q = (handed-keeps source x (q .0), all-keep source l (q .1))
 
-  -- what the image shows is what the follower shows
+-- a list of them
 
-  module _ (b : List ℕ) (l : List (List ℕ)) (e : length b ≡ 241) (a : AllHanded source l) where
-    same : (f : Follower) → followerFrom (taking b l) ≡ record { ok = true; follower = f } → f ≡ after l
-    same f q = ap (λ (r : ReadFollower). r .follower) (sym q ∙ taking-read b l e a)
+takes-bytes : (l : List (List ℕ)) (f : Follower) → AllKeep l → imageFits f ≡ true → takesOn functions (followerBytes f) l ≡ followerBytes (link.takes f l)
+takes-bytes [] f a h = refl
+takes-bytes (x ∷ l) f a h =
+    ap (λ (b : List ℕ). takesOn functions b l) (take-bytes f x h) ∙ takes-bytes l (take f x) (a .1) (a .0 .fits f h)
 
-    pub lost-on : Lost (after l) → LostOn (taking b l)
-    lost-on s = (after l, taking-read b l e a, s)
+takes-fit : (l : List (List ℕ)) (f : Follower) → AllKeep l → imageFits f ≡ true → imageFits (link.takes f l) ≡ true
+takes-fit [] f a h = h
+takes-fit (x ∷ l) f a h = takes-fit l (take f x) (a .1) (a .0 .fits f h)
 
-    pub on-lost : LostOn (taking b l) → Lost (after l)
-    on-lost s = subst Lost (same (s .0) (s .1)) (s .2)
+-- from a fresh follower's image
 
-    pub shows-on : (n : ℕ) (d : Display) → Shows (after l) n d → ShowsOn (taking b l) n d
-    shows-on n d s = (after l, taking-read b l e a, s)
+module _ (b : List ℕ) (e : length b ≡ 241) (l : List (List ℕ)) (a : AllKeep l) where
+  pub desk-is : desk functions b l ≡ followerBytes (after l)
+  desk-is = ap (λ (x : List ℕ). takesOn functions x l) (started-bytes b e) ∙ takes-bytes l fresh a fresh-fits
 
-    pub on-shows : (n : ℕ) (d : Display) → ShowsOn (taking b l) n d → Shows (after l) n d
-    on-shows n d s = subst (λ (f : Follower). Shows f n d) (same (s .0) (s .1)) (s .2)
+  pub desk-fits : imageFits (after l) ≡ true
+  desk-fits = takes-fit l fresh a fresh-fits
 
-    -- what a take returns and, turned back, leaves
-    pub take-returns : (y : List ℕ) → takeCall (taking b l) y .number ≡ takeTo (readPacket y)
-    take-returns y =
-        ap (λ (r : ReadFollower). cond {A = Called} (r .ok) (takenCall (taking b l) (r .follower) (readPacket y)) (refusedCall 21 (taking b l)) .number)
-        (taking-read b l e a)
-        ∙ taken-number (taking b l) (after l) (readPacket y)
-
-    pub take-back : (y : List ℕ) (n : ℕ) → readPacket y ≡ ReadPacket.Refused n → takeCall (taking b l) y .bytes ≡ taking b l
-    take-back y n q =
-        ap (λ (r : ReadFollower). cond {A = Called} (r .ok) (takenCall (taking b l) (r .follower) (readPacket y)) (refusedCall 21 (taking b l)) .bytes)
-        (taking-read b l e a)
-        ∙ ap (λ (z : ReadPacket). takenCall (taking b l) (after l) z .bytes) q
+  pub desk-read : followerFrom (desk functions b l) ≡ record { ok = true; follower = after l }
+  desk-read = ap followerFrom desk-is ∙ follower-read-write (after l) desk-fits

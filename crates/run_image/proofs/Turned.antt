@@ -19,14 +19,17 @@ use Rattle.wire.specs.Bytes.{eventBytes, pictureBytes}
 use Rattle.wire_writer.specs.declared.Written.{Written}
 use Rattle.service_image.specs.Image.{serviceFrom}
 use Rattle.service_image.specs.declared.ReadService.{ReadService}
-use Rattle.calls.specs.Calls.{steppedAt, steppedCall, refusedCall, rowsIn, onService, writtenAs, writtenCall, packetCall, pictureCall, writePacketCall, writePictureCall}
+use Rattle.calls.specs.Called.{refusedCall}
+use Rattle.calls.specs.Lent.{rowsIn, writtenAs, writtenCall, packetCall, pictureCall}
+use Rattle.calls.specs.Calls.{steppedAt, steppedCall, onService, writePacketCall, writePictureCall}
 use Rattle.calls.specs.declared.rows.Rows.{Rows}
-use Rattle.run_image.specs.Calls.{ByteCall, openEvent, giveAnswer, readOrder, writePacket, writePicture, imageAfter, returned, bufferIn, bufferAfter}
-use Rattle.run_image.proofs.Numbers.{order-low, closed-low, written-low}
+use Rattle.exported.specs.Calls.{ByteCall, openEvent, giveAnswer, readOrder, writePacket, writePicture, imageAfter, returned, bufferIn, bufferAfter}
+use Rattle.exported.specs.Ours.{functions}
+use Rattle.calls.proofs.Results.{order-low, closed-low, written-low}
 
 stepped-back : (b : List ℕ) (x : Step) (t : Service) → steppedAt b x t .number % 256 ≡ 0 → steppedAt b x t .bytes ≡ b
 stepped-back b (Step.Order o) t e = absurd (let q : _≡_ {A = ℕ} 1 0 = sym (order-low o) ∙ e in omega (arith, q))
-stepped-back b (Step.Closed a) t e = absurd (let q : _≡_ {A = ℕ} 2 0 = sym (closed-low a) ∙ e in omega (arith, q))
+stepped-back b (Step.Closed a n) t e = absurd (let q : _≡_ {A = ℕ} 2 0 = sym (closed-low a n) ∙ e in omega (arith, q))
 stepped-back b (Step.Refused n) t e = refl
 
 service-back : (b : List ℕ) (r : ReadService) (psus chargers : List ℕ) (f : Service → Records → Stepped) → onService b r psus chargers f .number % 256 ≡ 0 →
@@ -65,7 +68,7 @@ write-picture-back : (r : ReadService) (buffer : List ℕ) → writePictureCall 
 write-picture-back ReadService.Refused buffer e = refl
 write-picture-back (ReadService.Read s) buffer e = picture-back (sendPicture s) buffer e
 
-pub call-back : (b : List ℕ) (c : ByteCall) → returned b c % 256 ≡ 0 → (imageAfter b c ≡ b) × (bufferAfter b c ≡ bufferIn c)
+pub call-back : (b : List ℕ) (c : ByteCall) → returned functions b c % 256 ≡ 0 → (imageAfter functions b c ≡ b) × (bufferAfter functions b c ≡ bufferIn c)
 call-back b (openEvent psus chargers kind device detail) e =
     (service-back b (serviceFrom b) psus chargers (λ s r. openOf s kind device detail r) e, refl)
 call-back b (giveAnswer psus chargers a) e = (service-back b (serviceFrom b) psus chargers (λ s r. answerOf s a r) e, refl)

@@ -1,18 +1,26 @@
 -- What the definition says of a run on bytes: fed with the start and the calls that no numbered condition turns back, records read from their bytes.
-use Prim.Native.Nat.{ℕ}
-use mathlib.Core.Bool.{cond}
+use Prim.Native.Nat.{ℕ, _+_, _*_, _-_, _%_}
+use mathlib.Core.Bool.{Bool, not, cond}
 use mathlib.Core.List.{List, [], _∷_, _++_}
-use lib.Dec.{ltb}
+use mathlib.Core.Path.{_≡_}
+use lib.Dec.{eqb, ltb}
 use lib.ListN.{length}
+use Rattle.display.specs.declared.Display.{Display}
+use Rattle.power_policy_service.specs.declared.config.OptionConfig.{OptionConfig}
 use Rattle.event.specs.declared.memory.Records.{Records}
 use Rattle.event.specs.declared.memory.Registration.{Registration}
+use Rattle.service.specs.Refusals.{firstRefused, Lowest, startRefusals, openConditions, answerConditions}
+use Rattle.send.specs.Send.{packetConditions, pictureConditions}
+use Rattle.interaction.specs.Action.{ask}
+use Rattle.interaction.specs.Served.{AtMost}
 use Rattle.run.specs.Policy as policy
-use Rattle.run.specs.Policy.{Call, Policy, Stand, between, at}
-use Rattle.run.specs.Run.{openTo, answerTo, packetTo, pictureTo}
-use Rattle.calls.specs.Calls.{rowsIn, packetCall, pictureCall}
+use Rattle.run.specs.Policy.{Call, Policy, Stand, between, at, orderAt, isAt, started, heldAt}
+use Rattle.run.specs.Run.{openTo, answerTo, packetTo, pictureTo, policies}
+use Rattle.calls.specs.Lent.{rowsIn, packetCall, pictureCall}
 use Rattle.calls.specs.Numbers.{refusedNumber, orderNumber, closedNumber, stepNumber}
+use Rattle.calls.specs.OneToOne.{OrderFits}
 use Rattle.calls.specs.declared.rows.Rows.{Rows}
-use Rattle.run_image.specs.Calls.{ByteCall, openEvent, giveAnswer, readOrder, writePacket, writePicture}
+use Rattle.exported.specs.Calls.{ByteCall, openEvent, giveAnswer, readOrder, writePacket, writePicture}
 
 -- the call by value: none where 22 or 29 turns it back, or where it changes and writes nothing
 
@@ -33,13 +41,31 @@ abbrev pub callsOf : Registration → List ByteCall → List Call
 callsOf g [] = []
 callsOf g (c ∷ l) = callOf g c ++ callsOf g l
 
+-- the definition after these calls
+abbrev pub defined : Registration → List ByteCall → Policy
+defined g l = policies (started g) (callsOf g l)
+
+-- what is held when event n closes (0: the start)
+abbrev pub held : Registration → List ByteCall → ℕ → Display
+held g l n = heldAt (started g) (callsOf g l) n
+
+-- an open event has given n orders, the open one the last of them; whatever is answered it closes after at most 3 + 4 × chargers in all
+abbrev pub Closes : ℕ → Stand → Type 0
+Closes chargers between = Unit {0}
+Closes chargers (at n o k) = AtMost (4 + 4 * chargers - n) (ask o k)
+
+-- the order that an event stands at has its fields in the range of a result's
+abbrev pub OrderFitsAt : Stand → Type 0
+OrderFitsAt between = Unit {0}
+OrderFitsAt (at n o k) = OrderFits o
+
 -- what a call returns
 
 abbrev pub rowsTo : Rows → (Records → ℕ) → ℕ
 rowsTo r f = cond (r .ok) (f (r .records)) (refusedNumber 22)
 
 abbrev pub standTo : Stand → Policy → ℕ
-standTo between p = closedNumber (p .answer)
+standTo between p = closedNumber (p .answer) (p .orders)
 standTo (at n o k) p = orderNumber o
 
 abbrev pub returnTo : Policy → ByteCall → ℕ
@@ -57,3 +83,33 @@ bufferTo p (giveAnswer psus chargers a) = []
 bufferTo p readOrder = []
 bufferTo p (writePacket buffer) = packetCall (packetTo p) buffer .bytes
 bufferTo p (writePicture buffer) = pictureCall (pictureTo p) buffer .bytes
+
+-- what turns a call back: its conditions with their numbers, lowest first (document 01, "Turned back")
+
+-- 22: records of wrong length or with a field out of range
+abbrev pub wrongRows : Registration → List ℕ → List ℕ → Bool × ℕ
+wrongRows g psus chargers = (not (rowsIn g psus chargers .ok), 22)
+
+-- 29: buffer under 64 bytes
+abbrev pub short : List ℕ → List (Bool × ℕ)
+short buffer = (ltb (length buffer) 64, 29) ∷ []
+
+-- 21 never applies to what a start has left
+abbrev pub conditionsTo : Policy → ByteCall → List (Bool × ℕ)
+conditionsTo p (openEvent psus chargers kind device detail) =
+    wrongRows (p .registration) psus chargers
+    ∷ openConditions (p .registration .ports) (p .registration .chargers) (isAt (p .stand)) (p .number) kind device detail
+conditionsTo p (giveAnswer psus chargers a) = wrongRows (p .registration) psus chargers ∷ answerConditions (orderAt (p .stand)) a
+conditionsTo p readOrder = []
+conditionsTo p (writePacket buffer) = packetConditions (isAt (p .stand)) (p .number) ++ short buffer
+conditionsTo p (writePicture buffer) = pictureConditions (isAt (p .stand)) ++ short buffer
+
+-- of a start: 20, and 21 for bytes of another length than an image's
+abbrev pub startConditions : List ℕ → OptionConfig → ℕ → ℕ → List (Bool × ℕ)
+startConditions image config ports chargers = startRefusals config ports chargers ++ ((not (eqb (length image) 67), 21) ∷ [])
+
+-- the lowest that applies is returned, and a call that meets none is not turned back (its low byte is not 0)
+pub record Refuses (l : List (Bool × ℕ)) (number : ℕ) : Type 0 where
+  pub lowest : Lowest l (firstRefused l)
+  pub turned-back : (firstRefused l ≡ 0 → ⊥) → number ≡ refusedNumber (firstRefused l)
+  pub accepted : firstRefused l ≡ 0 → number % 256 ≡ 0 → ⊥

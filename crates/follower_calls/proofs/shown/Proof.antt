@@ -4,7 +4,7 @@ use mathlib.Core.Bool.{Bool, cond}
 use denote.Ref.{now}
 use Rattle.follower.specs.Follower.{stateOf}
 use Rattle.follower.specs.declared.State.{State}
-use Rattle.calls.specs.Calls.{shownAs}
+use Rattle.calls.specs.Lent.{shownAs}
 use Rattle.calls.specs.Numbers.{shownNumber}
 use Rattle.follower.specs.Held.{noneHeld}
 use Rattle.follower_in_place.proofs.Slot.{none-same}

@@ -57,8 +57,8 @@ bare-requires-4 c κs = search needs
 enum-told : tie.Need-enum-told
 enum-told c = search needs
 
-bare-requires-5 : tie.Need-bare-requires-5
-bare-requires-5 c κs = search needs
+pack-requires : tie.Need-pack-requires
+pack-requires c κs = search needs
 
 returns : tie.Need-returns
 returns c =
@@ -89,7 +89,8 @@ returns-7 c =
     rw (c .bare4 .ensures, c .before .before .order7 .given .1)
 
 returns-8 : tie.Need-returns-8
-returns-8 c = search needs
+returns-8 c =
+    rw (c .pack .ensures, c .before .enum-told .given .1)
 
 pub order-spec : {M : Type 1} → statement M
 order-spec =
@@ -113,7 +114,7 @@ order-spec =
     enum-known-order-7
     bare-requires-4
     enum-told
-    bare-requires-5
+    pack-requires
     returns
     returns-2
     returns-3

@@ -25,7 +25,8 @@ returns : tie.Need-returns
 returns c = search needs
 
 returns-2 : tie.Need-returns-2
-returns-2 c = search needs
+returns-2 c =
+    rw (c .closed .ensures, c .before .before .step2 .given .1)
 
 returns-3 : tie.Need-returns-3
 returns-3 c =

@@ -5,9 +5,9 @@ use native.Mathlib.Omega.{arith}
 use lib.Dec.{lit<}
 use Rattle.power_policy_interface.specs.declared.psu.Result.{Result}
 use Rattle.event.specs.declared.phase.Order.{Order}
-use Rattle.calls.specs.Numbers.{packed, refusedNumber, orderNumber, closedNumber, writtenNumber, doneNumber}
+use Rattle.calls.specs.Numbers.{packed, refusedNumber, waitMs, orderNumber, closedNumber, writtenNumber, doneNumber}
 
-packed-low : (w a b c d e : ℕ) → w < 256 → packed w a b c d e % 256 ≡ w
+pub packed-low : (w a b c d e : ℕ) → w < 256 → packed w a b c d e % 256 ≡ w
 packed-low w a b c d e h = omega (arith, h)
 
 pub refused-low : (n : ℕ) → refusedNumber n % 256 ≡ 0
@@ -21,11 +21,11 @@ order-low (Order.IsReady i) = packed-low 1 3 i 0 0 0 (lit< tt)
 order-low (Order.InitCharger i) = packed-low 1 4 i 0 0 0 (lit< tt)
 order-low (Order.Attach i c) = packed-low 1 5 i _ _ _ (lit< tt)
 order-low (Order.Detach i) = packed-low 1 6 i 0 0 0 (lit< tt)
-order-low Order.Wait = packed-low 1 7 0 0 0 0 (lit< tt)
+order-low Order.Wait = packed-low 1 7 0 0 waitMs 0 (lit< tt)
 
-pub closed-low : (a : Result) → closedNumber a % 256 ≡ 2
-closed-low Result.Ok = packed-low 2 0 0 0 0 0 (lit< tt)
-closed-low (Result.Err e) = packed-low 2 _ _ _ 0 0 (lit< tt)
+pub closed-low : (a : Result) (n : ℕ) → closedNumber a n % 256 ≡ 2
+closed-low Result.Ok n = packed-low 2 0 0 0 n 0 (lit< tt)
+closed-low (Result.Err e) n = packed-low 2 _ _ _ n 0 (lit< tt)
 
 pub written-low : (n : ℕ) → writtenNumber n % 256 ≡ 3
 written-low n = packed-low 3 (n % 256) 0 0 0 0 (lit< tt)

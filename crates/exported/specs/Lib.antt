@@ -1,0 +1,3 @@
+pub mod Functions
+pub mod Calls
+pub mod Ours

@@ -1,0 +1,22 @@
+-- The whole claim, put together.
+use mathlib.Core.Path.{refl}
+use Rattle.display.proofs.Set.{set-laws}
+use Rattle.power_policy_service.proofs.PairOrder.{pair-order}
+use Rattle.power_policy_service.proofs.TypeC.{rust-type-c, default-type-c}
+use Rattle.promise.specs.Claim.{Claim}
+use Rattle.promise.proofs.LaidOut.{laid-out}
+use Rattle.promise.proofs.Meant.{accepted-means}
+use Rattle.promise.proofs.OnlyOne.{only-one}
+use Rattle.promise.proofs.Promised.{promised}
+use Rattle.promise.proofs.Refuted.{testers}
+
+pub claimed : Claim
+claimed = record {
+  accepted = refl;
+  promised = promised;
+  only-one = only-one;
+  testers = testers;
+  meaning = accepted-means;
+  documents = record { set = set-laws; order = pair-order; type-c = rust-type-c; default-type-c = default-type-c };
+  layout = laid-out;
+}

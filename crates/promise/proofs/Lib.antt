@@ -1,0 +1,11 @@
+pub mod Sent
+pub mod Shown
+pub mod Linked
+pub mod Desk
+pub mod Starts
+pub mod Promised
+pub mod OnlyOne
+pub mod Refuted
+pub mod Meant
+pub mod LaidOut
+pub mod Claimed

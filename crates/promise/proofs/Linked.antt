@@ -1,0 +1,302 @@
+-- Demand 3 of our functions: a packet or picture of the run is read as what the definition has there, so that run's theorem on the link says what the
+-- follower shows, and its readers return that.
+use mathlib.Core.Path.{_≡_, refl, sym, ap, _∙_, subst}
+use mathlib.Core.Bool.{true}
+use mathlib.Core.List.{List, [], _∷_, _++_}
+use mathlib.Core.Logic.{_⊎_, _↔_, inl, inr, ⊎-elim}
+use Prim.Native.Nat.{ℕ, _+_, _/_, _≤_}
+use lib.ListN.{length}
+use Rattle.power_policy_interface.specs.Psu.{answerByte}
+use Rattle.display.specs.declared.Display.{Display}
+use Rattle.display.specs.declared.packet.EventPacket.{EventPacket}
+use Rattle.display.specs.declared.packet.Packet.{Packet}
+use Rattle.display.specs.declared.packet.Picture.{Picture}
+use Rattle.event.specs.declared.memory.Registration.{Registration}
+use Rattle.service.specs.declared.Service.{Service}
+use Rattle.wire.specs.Bytes.{packetBytes}
+use Rattle.wire.specs.Read.{readPacket}
+use Rattle.wire.specs.WellFormed.{pictureFits}
+use Rattle.wire.specs.declared.packet.ReadPacket.{ReadPacket}
+use Rattle.follower.specs.Follower.{stateOf, consumerOf}
+use Rattle.follower.specs.declared.Follower.{Follower}
+use Rattle.follower.specs.declared.Shown.{Shown}
+use Rattle.link.specs.Link as link
+use Rattle.link.specs.Link.{after}
+use Rattle.link.specs.Source.{Source, numberIn}
+use Rattle.link.specs.Takes as taken
+use Rattle.link.specs.Takes.{Met}
+use Rattle.link.proofs.Lists.{one-packet}
+use Rattle.run.specs.Demands as run
+use Rattle.run.specs.Demands.{OnLink}
+use Rattle.service_image.specs.Image.{serviceBytes}
+use Rattle.follower_image.specs.Fits.{shownFits}
+use Rattle.follower_image.specs.Image.{followerFrom}
+use Rattle.follower_image.specs.declared.ReadFollower.{ReadFollower}
+use Rattle.follower_image.proofs.OneImage.{fits, picture-parts}
+use Rattle.invariant.proofs.Good.{Good}
+use Rattle.calls.specs.Calls.{readerCall}
+use Rattle.calls.specs.Lent.{shownAs, trackedIn}
+use Rattle.calls.specs.Numbers.{consumerNumber, shownNumber}
+use Rattle.exported.specs.Calls.{ByteCall, writePacket, writePicture, CallsBytes, desk}
+use Rattle.exported.specs.Ours.{functions}
+use Rattle.run_image.specs.Definition.{callsOf, defined, held}
+use Rattle.run_image.proofs.Takes.{AllKeep, all-keep, desk-fits, desk-read}
+use Rattle.run_image.proofs.Written.{Sent, bytes-left, packet-sent, picture-sent}
+use Rattle.promise.specs.Runs.{PacketOf, PictureOf, Handed, packet, picture, turned-back, AllHanded, In, Comes, NothingAbove, NoEventAbove, Lost, Shows}
+use Rattle.promise.specs.Promise.{Link}
+use Rattle.promise.proofs.Sent.{packetOf, packet-is, picture-is}
+use Rattle.promise.proofs.Shown.{shown-number, not-lost, level-or-waiting}
+
+-- a packet is no picture
+
+abbrev IsEvent : Packet → Type 0
+IsEvent (Packet.Event e) = Unit {0}
+IsEvent (Packet.Picture v) = ⊥
+
+abbrev IsRead : ReadPacket → Type 0
+IsRead (ReadPacket.Refused n) = ⊥
+IsRead (ReadPacket.Packet p) = Unit {0}
+
+same-picture : (v w : Picture) → Packet.Picture v ≡ Packet.Picture w → v ≡ w
+same-picture v w q = cc
+
+module _ (s : Service) (good : Good s) (demands : run.Demands s) (calls : List ByteCall) (bytes : CallsBytes calls) (on : OnLink s (callsOf (s .registration) calls)) where
+  abbrev g : Registration
+  g = s .registration
+
+  abbrev image : List ℕ
+  image = serviceBytes s
+
+  abbrev source : Source
+  source = on .source
+
+  abbrev at : ℕ → Display
+  at n = held g calls n
+
+  -- what a packet and a picture of the run are read as
+
+  record Event (n : ℕ) (y : List ℕ) (w : PacketOf functions image g calls n y) : Type 0 where
+    event : EventPacket
+    sent : Sent s good demands calls on y (Packet.Event event)
+    number : event .number ≡ n
+    answer : event .answer ≡ answerByte (defined g (w .before) .answer)
+
+  event-of : (n : ℕ) (y : List ℕ) (w : PacketOf functions image g calls n y) → Event n y w
+  event-of n y w =
+      let b : CallsBytes (w .before) = bytes-left (w .before) (writePacket (w .buffer) ∷ w .rest) (subst CallsBytes (w .among) bytes) in
+      let z = packet-sent s good demands calls on (w .before) (w .rest) b (w .buffer) y (w .among) (w .writes) in
+      let k : z .0 ≡ packetOf (defined g (w .before)) = packet-is (defined g (w .before)) (z .0) (z .1) in
+      record { event = z .0; sent = z .2; number = ap (λ (e : EventPacket). e .number) k ∙ w .number; answer = ap (λ (e : EventPacket). e .answer) k }
+
+  record View (n : ℕ) (y : List ℕ) : Type 0 where
+    view : Picture
+    sent : Sent s good demands calls on y (Packet.Picture view)
+    number : view .number ≡ n
+    display : view .display ≡ source .held n
+
+  view-of : (n : ℕ) (y : List ℕ) → PictureOf functions image g calls n y → View n y
+  view-of n y w =
+      let b : CallsBytes (w .before) = bytes-left (w .before) (writePicture (w .buffer) ∷ w .rest) (subst CallsBytes (w .among) bytes) in
+      let z = picture-sent s good demands calls on (w .before) (w .rest) b (w .buffer) y (w .among) (w .writes) in
+      let k : z .0 .number ≡ n = ap (λ (v : Picture). v .number) (picture-is (defined g (w .before)) (z .0) (z .1)) ∙ w .number in
+      record { view = z .0; sent = z .2; number = k; display = source .picture (z .0) (z .2 .written) ∙ ap (λ (m : ℕ). source .held m) k }
+
+  -- what the link hands over
+
+  handed : (y : List ℕ) → Handed functions image g calls y → taken.Handed source y
+  handed y (packet n w) =
+      let z = event-of n y w in
+      taken.copy (Packet.Event (z .event)) (z .sent .written) (z .sent .bytes)
+  handed y (picture n w) =
+      let z = view-of n y w in
+      taken.copy (Packet.Picture (z .view)) (z .sent .written) (z .sent .bytes)
+  handed y (turned-back n e) = taken.turned-back n e
+
+  all-handed : (l : List (List ℕ)) → AllHanded functions image g calls l → taken.AllHanded source l
+  all-handed [] q = tt
+  all-handed (y ∷ l) q = (handed y (q .0), all-handed l (q .1))
+
+  handed-left : (l m : List (List ℕ)) → AllHanded functions image g calls (l ++ m) → AllHanded functions image g calls l
+  handed-left [] m q = tt
+  handed-left (y ∷ l) m q = (q .0, handed-left l m (q .1))
+
+  and-one : (l : List (List ℕ)) (y : List ℕ) → AllHanded functions image g calls l → Handed functions image g calls y → AllHanded functions image g calls (l ++ (y ∷ []))
+  and-one [] y q r = (r, tt)
+  and-one (z ∷ l) y q r = (q .0, and-one l y (q .1) r)
+
+  -- what is among the takes, by bytes and by packets
+
+  met : (y : List ℕ) (p : Packet) (l : List (List ℕ)) → readPacket y ≡ ReadPacket.Packet p → In functions image g calls y l → Met p l
+  met y p (z ∷ l) r (inl e) = inl (ap readPacket e ∙ r)
+  met y p (z ∷ l) r (inr i) = inr (met y p l r i)
+
+  among : (p : Packet) (l : List (List ℕ)) → Met p l → (y : List ℕ) × In functions image g calls y l × (readPacket y ≡ ReadPacket.Packet p)
+  among p (y ∷ l) (inl e) = (y, inl refl, e)
+  among p (y ∷ l) (inr m) =
+      let z = among p l m in
+      (z .0, inr (z .1), z .2)
+
+  hands : (y : List ℕ) (l : List (List ℕ)) → AllHanded functions image g calls l → In functions image g calls y l → Handed functions image g calls y
+  hands y (z ∷ l) q (inl e) = subst (λ (b : List ℕ). Handed functions image g calls b) e (q .0)
+  hands y (z ∷ l) q (inr i) = hands y l (q .1) i
+
+  comes : (n k : ℕ) (l : List (List ℕ)) → Comes functions image g calls n k l → link.Comes n k l
+  comes n k l c j a b =
+      let x = c j a b in
+      let z = event-of j (x .0) (x .2 .0) in
+      (z .event, met (x .0) (Packet.Event (z .event)) l (z .sent .read) (x .1), z .number, z .answer ∙ ap answerByte (x .2 .1))
+
+  -- of what is met, whichever it is, the run has a packet or picture with that number
+
+  nothing-above : (m : ℕ) (l : List (List ℕ)) → AllHanded functions image g calls l → NothingAbove functions image g calls m l → link.NothingAbove m l
+  nothing-above m l q c p i =
+      let x = among p l i in
+      go (x .0) (x .1) (x .2) (hands (x .0) l q (x .1))
+    where
+      go : (y : List ℕ) → In functions image g calls y l → readPacket y ≡ ReadPacket.Packet p → Handed functions image g calls y → numberIn p ≤ m
+      go y j r (packet n w) =
+          let z = event-of n y w in
+          subst (λ (k : ℕ). k ≤ m) (sym (z .number) ∙ ap numberIn (one-packet (z .sent .read) r)) (c n y j (inl w))
+      go y j r (picture n w) =
+          let z = view-of n y w in
+          subst (λ (k : ℕ). k ≤ m) (sym (z .number) ∙ ap numberIn (one-packet (z .sent .read) r)) (c n y j (inr w))
+      go y j r (turned-back n e) = absurd (subst IsRead (sym r ∙ e) tt)
+
+  no-event-above : (m : ℕ) (l : List (List ℕ)) → AllHanded functions image g calls l → NoEventAbove functions image g calls m l → link.NoLower m l
+  no-event-above m l q c e i =
+      let x = among (Packet.Event e) l i in
+      go (x .0) (x .1) (x .2) (hands (x .0) l q (x .1))
+    where
+      go : (y : List ℕ) → In functions image g calls y l → readPacket y ≡ ReadPacket.Packet (Packet.Event e) → Handed functions image g calls y → e .number ≤ m
+      go y j r (packet n w) =
+          let z = event-of n y w in
+          subst (λ (k : ℕ). k ≤ m) (sym (z .number) ∙ ap numberIn (one-packet (z .sent .read) r)) (c n y j w)
+      go y j r (picture n w) = absurd (subst IsEvent (sym (one-packet (view-of n y w .sent .read) r)) tt)
+      go y j r (turned-back n t) = absurd (subst IsRead (sym r ∙ t) tt)
+
+  no-lower : (m : ℕ) (l : List (List ℕ)) → link.NoLower m l → NoEventAbove functions image g calls m l
+  no-lower m l c n y i w =
+      let z = event-of n y w in
+      subst (λ (k : ℕ). k ≤ m) (z .number) (c (z .event) (met y (Packet.Event (z .event)) l (z .sent .read) i))
+
+  -- what the readers return of the follower after these takes
+
+  module _ (x : List ℕ) (size : length x ≡ 241) (l : List (List ℕ)) (q : AllHanded functions image g calls l) where
+    keep : AllKeep l
+    keep = all-keep source l (all-handed l q)
+
+    told : (t : Follower → Shown → ℕ) (u : Shown) → after l .shown ≡ u → readerCall (followerFrom (desk functions x l)) (λ f. t f (f .shown)) ≡ t (after l) u
+    told t u e = ap (λ (r : ReadFollower). readerCall r (λ f. t f (f .shown))) (desk-read x size l keep) ∙ ap (t (after l)) e
+
+    lost-by : taken.Lost (after l) → Lost functions (desk functions x l)
+    lost-by z = record {
+      shown = told (λ f u. shownAs (stateOf f) u) (Shown.Lost (z .0)) (z .1);
+      consumer = told (λ f u. consumerNumber (consumerOf u)) (Shown.Lost (z .0)) (z .1);
+      tracked = told (λ f u. trackedIn u) (Shown.Lost (z .0)) (z .1);
+    }
+
+    small : (n : ℕ) (d : Display) → taken.Shows (after l) n d → d .unconstrained .available ≤ 16
+    small n d e =
+        let k : pictureFits (record { number = n; display = d }) ≡ true = subst (λ (u : Shown). shownFits u ≡ true) e (fits (after l) (desk-fits x size l keep) .shown) in
+        picture-parts (record { number = n; display = d }) k .available
+
+    shows-by : (n : ℕ) (d : Display) → taken.Shows (after l) n d → Shows functions (desk functions x l) n d
+    shows-by n d e =
+        let r : functions .shown (desk functions x l) ≡ shownNumber (stateOf (after l)) n d =
+        told (λ f u. shownAs (stateOf f) u) (Shown.Picture (record { number = n; display = d })) e in
+        record {
+          shown = level-or-waiting (functions .shown (desk functions x l)) n d (after l) e r;
+          number = ap (λ (y : ℕ). y / 4294967296) r ∙ shown-number (stateOf (after l)) n d (small n d e);
+          consumer = told (λ f u. consumerNumber (consumerOf u)) (Shown.Picture (record { number = n; display = d })) e;
+          tracked = told (λ f u. trackedIn u) (Shown.Picture (record { number = n; display = d })) e;
+        }
+
+    -- lost or shown, it is the follower that is: it can be nothing else
+
+    is : taken.Lost (after l) ⊎ ((n : ℕ) × source .Closed n × taken.Shows (after l) n (source .held n))
+    is = on .demand .a l (all-handed l q)
+
+    by-lost : Lost functions (desk functions x l) → taken.Lost (after l)
+    by-lost z =
+        ⊎-elim (λ y. y)
+        (λ y. absurd (not-lost (functions .shown (desk functions x l)) (y .0) (source .held (y .0)) (shows-by (y .0) (source .held (y .0)) (y .2) .shown) (z .shown)))
+        is
+
+    by-shows : (n : ℕ) (d : Display) → Shows functions (desk functions x l) n d → taken.Shows (after l) n (source .held n)
+    by-shows n d z =
+        ⊎-elim (λ y. absurd (not-lost (functions .shown (desk functions x l)) n d (z .shown) (lost-by y .shown)))
+        (λ y. subst (λ (m : ℕ). taken.Shows (after l) m (source .held m)) (sym (shows-by (y .0) (source .held (y .0)) (y .2) .number) ∙ z .number) (y .2))
+        is
+
+    shows-at : (n : ℕ) → taken.Shows (after l) n (source .held n) → Shows functions (desk functions x l) n (at n)
+    shows-at n z = subst (λ (d : Display). Shows functions (desk functions x l) n d) (on .held n) (shows-by n (source .held n) z)
+
+  -- the four conclusions
+
+  module _ (x : List ℕ) (size : length x ≡ 241) where
+    never-wrong : (l : List (List ℕ)) → AllHanded functions image g calls l →
+        Lost functions (desk functions x l) ⊎ ((n : ℕ) × (n ≤ defined g calls .number) × Shows functions (desk functions x l) n (at n))
+    never-wrong l q =
+        ⊎-elim (λ z. inl (lost-by x size l q z)) (λ z. inr (z .0, on .closed (z .0) .0 (z .1), shows-at x size l q (z .0) (z .2))) (is x size l q)
+
+    follows : (before later : List (List ℕ)) (n k : ℕ) → AllHanded functions image g calls (before ++ later) →
+        Shows functions (desk functions x before) n (at n) → k ≤ 8 → Comes functions image g calls n k later →
+        NothingAbove functions image g calls (n + k) (before ++ later) → Shows functions (desk functions x (before ++ later)) (n + k) (at (n + k))
+    follows before later n k q w le c a =
+        shows-at x size (before ++ later) q (n + k)
+        (on .demand .b before later n k (source .held n) (all-handed (before ++ later) q) (by-shows x size before (handed-left before later q) n (at n) w) le
+        (comes n k later c) (nothing-above (n + k) (before ++ later) q a))
+
+    recovers : (before : List (List ℕ)) (n : ℕ) (y : List ℕ) → AllHanded functions image g calls before → PictureOf functions image g calls n y →
+        Lost functions (desk functions x before) →
+        Shows functions (desk functions x (before ++ (y ∷ []))) n (at n) ↔ NoEventAbove functions image g calls n before
+    recovers before n y q w lost = (
+      λ k.
+          no-lower n before
+          (subst (λ (m : ℕ). link.NoLower m before) (v .number) (z .1 (from (by-shows x size (before ++ (y ∷ [])) u n (at n) k)))),
+      λ k. shows-at x size (before ++ (y ∷ [])) u n (to (z .0 (subst (λ (m : ℕ). link.NoLower m before) (sym (v .number)) (no-event-above n before q k)))),
+    )
+      where
+        v : View n y
+        v = view-of n y w
+
+        u : AllHanded functions image g calls (before ++ (y ∷ []))
+        u = and-one before y q (picture n w)
+
+        On : List ℕ → ℕ → Display → Type 0
+        On b m d = taken.Shows (after (before ++ (b ∷ []))) m d
+
+        z : (link.NoLower (v .view .number) before → On (packetBytes (Packet.Picture (v .view))) (v .view .number) (v .view .display))
+            × (On (packetBytes (Packet.Picture (v .view))) (v .view .number) (v .view .display) → link.NoLower (v .view .number) before)
+        z = on .demand .c before (v .view) (all-handed before q) (v .sent .written) (by-lost x size before q lost)
+
+        -- the bytes handed over are the picture's, its number is n and its display what was held there
+        to : On (packetBytes (Packet.Picture (v .view))) (v .view .number) (v .view .display) → On y n (source .held n)
+        to h =
+            subst (λ (b : List ℕ). On b n (source .held n)) (sym (v .sent .bytes))
+            (subst (λ (m : ℕ). On (packetBytes (Packet.Picture (v .view))) m (source .held n)) (v .number)
+            (subst (λ (d : Display). On (packetBytes (Packet.Picture (v .view))) (v .view .number) d) (v .display) h))
+
+        from : On y n (source .held n) → On (packetBytes (Packet.Picture (v .view))) (v .view .number) (v .view .display)
+        from h =
+            subst (λ (d : Display). On (packetBytes (Packet.Picture (v .view))) (v .view .number) d) (sym (v .display))
+            (subst (λ (m : ℕ). On (packetBytes (Packet.Picture (v .view))) m (source .held n)) (sym (v .number))
+            (subst (λ (b : List ℕ). On b n (source .held n)) (v .sent .bytes) h))
+
+    stays-lost : (before : List (List ℕ)) (y : List ℕ) → AllHanded functions image g calls before → Handed functions image g calls y →
+        Lost functions (desk functions x before) → ((n : ℕ) → PictureOf functions image g calls n y → NoEventAbove functions image g calls n before → ⊥) →
+        Lost functions (desk functions x (before ++ (y ∷ [])))
+    stays-lost before y q h lost k =
+        lost-by x size (before ++ (y ∷ [])) (and-one before y q h)
+        (on .demand .d before y (all-handed before q) (handed y h) (by-lost x size before q lost) (go h))
+      where
+        go : Handed functions image g calls y → (p : Picture) → readPacket y ≡ ReadPacket.Packet (Packet.Picture p) → link.NoLower (p .number) before → ⊥
+        go (packet n w) p r c = absurd (subst IsEvent (one-packet (event-of n y w .sent .read) r) tt)
+        go (picture n w) p r c =
+            let v = view-of n y w in
+            let e : v .view ≡ p = same-picture (v .view) p (one-packet (v .sent .read) r) in
+            k n w (no-lower n before (subst (λ (m : ℕ). link.NoLower m before) (sym (ap (λ (z : Picture). z .number) e) ∙ v .number) c))
+        go (turned-back n t) p r c = subst IsRead (sym r ∙ t) tt
+
+    pub ours-link : Link functions image g calls x
+    ours-link = record { never-wrong = never-wrong; follows = follows; recovers = recovers; stays-lost = stays-lost }

@@ -1,0 +1,41 @@
+-- The whole claim. Its one value is `claimed` (proofs/Claimed.antt).
+use mathlib.Core.Path.{_≡_}
+use mathlib.Core.List.{List}
+use Prim.Native.Nat.{ℕ}
+use lib.ListN.{replicate}
+use Rattle.display.specs.Set.{SetLaws}
+use Rattle.power_policy_service.specs.Config.{rustDefault, defaultConfig}
+use Rattle.power_policy_service.specs.PairOrder.{PairOrder}
+use Rattle.power_policy_service.specs.TypeC.{TypeC}
+use Rattle.power_policy_service.specs.declared.config.Config.{Config}
+use Rattle.power_policy_service.specs.declared.config.OptionConfig.{OptionConfig}
+use Rattle.exported.specs.Functions.{Functions, Arguments, arguments, configOf}
+use Rattle.exported.specs.Ours.{functions}
+use Rattle.promise.specs.Layout.{Layout}
+use Rattle.promise.specs.Promise.{serviceLength, startRefused, registers, Promise, Meaning}
+use Rattle.promise.specs.Same.{Same}
+use Rattle.promise.specs.Testers.{Testers}
+
+-- public documents first
+pub record Documents : Type 0 where
+  -- heapless's set of fixed capacity
+  pub set : SetLaws
+  -- Rust's ordering of pairs and bool
+  pub order : PairOrder
+  -- USB Type-C's 5 V currents
+  pub type-c : TypeC rustDefault
+  pub default-type-c : TypeC defaultConfig
+
+pub record Claim : Type 0 where
+  -- a start is accepted, here by the Rust's default with one port; a run after it, and takes that meet what demand 3 asks for, are in proofs/Refuted.antt
+  pub accepted : startRefused (replicate serviceLength 0) (arguments 1 0 15000 5000 3000 5000 1500 0 0) ≡ 0
+  -- our functions keep the promise
+  pub promised : Promise functions
+  -- and only one behaviour does
+  pub only-one : (f g : Functions) → Promise f → Promise g → Same f g
+  -- so that none of the testers' programs does
+  pub testers : Testers
+  -- what the definition's words come to, of whatever a start accepts
+  pub meaning : (image : List ℕ) (a : Arguments) → startRefused image a ≡ 0 → (c : Config) → configOf a ≡ OptionConfig.Some c → Meaning (registers a c)
+  pub documents : Documents
+  pub layout : Layout

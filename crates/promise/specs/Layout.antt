@@ -1,0 +1,95 @@
+-- What is promised of the bytes themselves: one encoding of each value, so that accepted bytes are those written; 21 exactly where bytes are no image; the
+-- program `follow`; the edges of document 01.
+use Prim.Native.Nat.{ℕ, _+_, _*_, _-_, _%_, _≤_}
+use mathlib.Core.Bool.{true, false}
+use mathlib.Core.List.{List, _++_, flatten}
+use mathlib.Core.Logic.{_↔_}
+use mathlib.Core.Path.{_≡_}
+use lib.ListN.{length, drop}
+use Rattle.records.specs.Row.{AllBytes}
+use Rattle.records.specs.Charger.{chargerFrom, chargerBytes}
+use Rattle.records.specs.Psu.{psuFrom, psuBytes}
+use Rattle.records.specs.declared.charger.ReadCharger.{ReadCharger}
+use Rattle.records.specs.declared.psu.ReadPsu.{ReadPsu}
+use Rattle.power_policy_interface.specs.declared.charger.State as charger
+use Rattle.power_policy_interface.specs.declared.psu.State as psu
+use Rattle.display.specs.declared.packet.Packet.{Packet}
+use Rattle.power_policy_service.specs.declared.config.Config.{Config}
+use Rattle.power_policy_service.specs.declared.config.OptionConfig.{OptionConfig}
+use Rattle.service.specs.declared.Service.{Service}
+use Rattle.wire.specs.Bytes.{packetBytes}
+use Rattle.wire.specs.Number.{leb128, readNumber}
+use Rattle.wire.specs.Read.{readPacket}
+use Rattle.wire.specs.WellFormed as wire
+use Rattle.wire.specs.declared.number.ReadNumber.{ReadNumber}
+use Rattle.wire.specs.declared.packet.ReadPacket.{ReadPacket}
+use Rattle.follower.specs.declared.Follower.{Follower}
+use Rattle.interaction.specs.Machine.{standsAt}
+use Rattle.interaction.specs.Served.{AtMost}
+use Rattle.link.specs.Link.{after}
+use Rattle.run.specs.Demands.{Equal}
+use Rattle.report.specs.Desk.{follow}
+use Rattle.report.specs.Reads.{run}
+use Rattle.service_image.specs.Image.{serviceBytes, serviceFrom}
+use Rattle.service_image.specs.Typed.{Typed}
+use Rattle.service_image.specs.WellFormed.{wellFormed}
+use Rattle.service_image.specs.declared.ReadService.{ReadService}
+use Rattle.follower_image.specs.Fits.{imageFits}
+use Rattle.follower_image.specs.Image.{followerBytes, followerFrom}
+use Rattle.calls.specs.Called.{refusedCall}
+use Rattle.calls.specs.Calls.{takenCall}
+use Rattle.calls.specs.Numbers.{refusedNumber}
+use Rattle.calls.specs.OneToOne.{OneToOne}
+use Rattle.edges.specs.Edges.{Edges}
+use Rattle.exported.specs.Calls.{ByteCall, bufferIn, CallsBytes, imageAfter, returned, bufferAfter, images, desk, EachBytes}
+use Rattle.exported.specs.Functions.{Arguments, configOf}
+use Rattle.exported.specs.Ours.{functions}
+use Rattle.run_image.specs.Definition.{defined, Refuses}
+use Rattle.run_image.specs.Refused.{conditions}
+use Rattle.promise.specs.Promise.{followerLength, startRefused, registers}
+
+pub record Layout : Type 0 where
+  -- 21 is exact: bytes are read as a service, or as a follower, exactly if it is well formed and they are its image.
+  pub service-image :
+      (b : List ℕ) (s : Service) → AllBytes b → (serviceFrom b ≡ ReadService.Read s) ↔ ((serviceBytes s ≡ b) × (Typed s × (wellFormed s ≡ true)))
+  pub follower-image :
+      (b : List ℕ) (f : Follower) → AllBytes b → (followerFrom b ≡ record { ok = true; follower = f }) ↔ ((followerBytes f ≡ b) × (imageFits f ≡ true))
+  -- After a start that is accepted and any calls the image is that of a service that stands where the definition stands (`Equal`): its number, order or answer,
+  -- orders and notices, and between events the whole state, the power state too.
+  pub holds :
+      (image : List ℕ) (a : Arguments) → startRefused image a ≡ 0 → (c : Config) → configOf a ≡ OptionConfig.Some c → (l : List ByteCall) → CallsBytes l →
+      (s : Service) × (serviceFrom (images functions (functions .start image a .bytes) l) ≡ ReadService.Read s) × Equal s (defined (registers a c) l)
+  -- Likewise a follower's, after its start and any takes.
+  pub follower-holds :
+      (x : List ℕ) (l : List (List ℕ)) → length x ≡ followerLength → EachBytes l → followerFrom (desk functions x l) ≡ record { ok = true; follower = after l }
+  -- No image that is accepted, reached or not, passes the bound on orders.
+  pub bounded :
+      (b : List ℕ) (s : Service) → AllBytes b → serviceFrom b ≡ ReadService.Read s →
+      (s .orders ≤ 3 + 4 * s .registration .chargers)
+      × AtMost (4 + 4 * s .registration .chargers - s .orders) (standsAt (s .registration) (s .phase) (s .memory))
+  -- A take and the readers on any bytes: 21 where they are no image, and then the bytes stay; else what the definition's follower does.
+  pub no-follower :
+      (b y : List ℕ) → followerFrom b .ok ≡ false →
+      (functions .take b y ≡ refusedCall 21 b)
+      × ((functions .shown b ≡ refusedNumber 21) × ((functions .consumer b ≡ refusedNumber 21) × (functions .tracked b ≡ refusedNumber 21)))
+  pub takes-on :
+      (b y : List ℕ) (f : Follower) → followerFrom b ≡ record { ok = true; follower = f } → functions .take b y ≡ takenCall b f (readPacket y)
+  -- On any bytes a call of the service is refused by the lowest number that applies, 21 first,
+  pub refuses : (b : List ℕ) (c : ByteCall) → Refuses (conditions b c) (returned functions b c)
+  -- and then leaves every byte.
+  pub turned-back : (b : List ℕ) (c : ByteCall) → returned functions b c % 256 ≡ 0 → (imageAfter functions b c ≡ b) × (bufferAfter functions b c ≡ bufferIn c)
+  -- Bytes are read as a packet or picture exactly if it is well formed and they are its bytes, which are at most 64.
+  pub packet : (y : List ℕ) (p : Packet) → AllBytes y → (readPacket y ≡ ReadPacket.Packet p) ↔ ((y ≡ packetBytes p) × (wire.wellFormed p ≡ true))
+  pub packet-length : (p : Packet) → wire.wellFormed p ≡ true → length (packetBytes p) ≤ 64
+  -- A number is read from its groups of seven bits, in shortest form, and from nothing else.
+  pub number-back : (limit n : ℕ) (r : List ℕ) → n ≤ limit → n ≤ 4294967295 → readNumber limit (leb128 n ++ r) ≡ ReadNumber.Number n (length (leb128 n))
+  pub number-bytes : (limit : ℕ) (y : List ℕ) (n u : ℕ) → AllBytes y → readNumber limit y ≡ ReadNumber.Number n u → y ≡ leb128 n ++ drop u y
+  -- Bytes are read as a record exactly if they are its bytes.
+  pub psu-record : (b : List ℕ) (s : psu.State) → AllBytes b → (psuFrom b ≡ ReadPsu.Read s) ↔ (b ≡ psuBytes s)
+  pub charger-record : (b : List ℕ) (s : charger.State) → AllBytes b → (chargerFrom b ≡ ReadCharger.Read s) ↔ (b ≡ chargerBytes s)
+  -- Results tell what was packed into them.
+  pub results : OneToOne
+  -- What `follow` hands to the system to write is its definition of the whole input, however the reads cut that.
+  pub follow-writes : (l : List (List ℕ)) → run l ≡ follow (flatten l)
+  -- P1 to P12.
+  pub edges : Edges

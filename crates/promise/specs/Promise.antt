@@ -1,0 +1,184 @@
+-- All that is promised of the exported functions, of any such functions f: in the words of the definition, of the bytes lent and of the numbers returned. An
+-- image is whatever f's start left, threaded through calls. What its bytes are is f's own, and so is what a call does with bytes of an image's length that no
+-- start left; of ours that is in Layout.antt, where 21 is exact.
+-- Ours keep it (proofs/Promised.antt), and only one behaviour does (Same.antt, proofs/OnlyOne.antt). The whole claim is Claim.antt: beside Promise and Meaning
+-- the bytes themselves (Layout.antt), the public documents, and the programs that do not keep it (Testers.antt).
+--
+-- To read what is cited, in this order:
+--   Runs.antt here, exported specs/Functions.antt and Calls.antt   functions of any program, runs of them, what the link hands over and what is shown
+--   run_image specs/Definition.antt                                what the definition says of calls on bytes; refusals
+--   run specs/Policy.antt, Run.antt, Orders.antt, Chosen.antt      a run as the definition has it
+--   interaction specs/Action.antt, Interaction.antt                the event, to be laid beside the Rust
+--   power_policy_service specs/Config.antt, Consumer.antt, Choice.antt, Provider.antt; service specs/Refusals.antt; send specs/Send.antt
+--   calls specs/Numbers.antt, OneToOne.antt, Lent.antt             the numbers returned, and what they tell
+--   wire specs/Number.antt, Packet.antt, Bytes.antt, Read.antt     packets and pictures
+--   follower specs/Follower.antt, link specs/Takes.antt            the desk
+use Prim.Native.Nat.{ℕ, _+_, _*_, _%_, _≤_}
+use mathlib.Core.Bool.{Bool, true, false, cond}
+use mathlib.Core.List.{List, [], _∷_, _++_}
+use mathlib.Core.Logic.{_⊎_, _↔_}
+use mathlib.Core.Path.{_≡_}
+use lib.Dec.{eqb}
+use lib.ListN.{length}
+use Rattle.records.specs.Row.{AllBytes}
+use Rattle.display.specs.Notices.{listed}
+use Rattle.display.specs.declared.packet.EventPacket.{EventPacket}
+use Rattle.display.specs.declared.packet.Packet.{Packet}
+use Rattle.display.specs.declared.packet.Picture.{Picture}
+use Rattle.power_policy_service.specs.declared.config.Config.{Config}
+use Rattle.power_policy_service.specs.declared.config.OptionConfig.{OptionConfig}
+use Rattle.event.specs.declared.memory.Registration.{Registration}
+use Rattle.service.specs.Refusals.{firstRefused, Lowest}
+use Rattle.send.specs.declared.SentPacket.{SentPacket}
+use Rattle.send.specs.declared.SentPicture.{SentPicture}
+use Rattle.wire.specs.Read.{readPacket}
+use Rattle.wire.specs.declared.packet.ReadPacket.{ReadPacket}
+use Rattle.follower.specs.Follower.{stateOf, consumerOf}
+use Rattle.link.specs.Link.{after}
+use Rattle.calls.specs.Lent.{takeTo, shownAs, trackedIn}
+use Rattle.calls.specs.Numbers.{refusedNumber, doneNumber, consumerNumber}
+use Rattle.calls.specs.OneToOne.{AnswerFits, DisplayFits}
+use Rattle.run.specs.Chosen.{Choices}
+use Rattle.run.specs.Orders.{ordersOf, Counted}
+use Rattle.run.specs.Policy.{between, started}
+use Rattle.run.specs.Run.{packetTo, pictureTo}
+use Rattle.exported.specs.Calls.{ByteCall, writePacket, writePicture, bufferIn, CallsBytes, imageAfter, returned, bufferAfter, images, Writes, desk, EachBytes}
+use Rattle.exported.specs.Functions.{Functions, Arguments, configOf}
+use Rattle.run_image.specs.Definition.{callsOf, defined, held, Closes, OrderFitsAt, returnTo, bufferTo, conditionsTo, startConditions, Refuses}
+use Rattle.promise.specs.Runs.{PictureOf, Handed, AllHanded, Comes, NothingAbove, NoEventAbove, Lost, Shows}
+
+-- the lengths of the images, which the header names
+abbrev pub serviceLength : ℕ
+serviceLength = 67
+
+abbrev pub followerLength : ℕ
+followerLength = 241
+
+-- 0: done; else the number that turns it back
+abbrev pub doneOr : ℕ → ℕ
+doneOr n = cond (eqb n 0) doneNumber (refusedNumber n)
+
+-- the first condition of a start that holds, 20 or 21; 0 if none does
+abbrev pub startRefused : List ℕ → Arguments → ℕ
+startRefused image a = firstRefused (startConditions image (configOf a) (a .ports) (a .chargers))
+
+abbrev pub registers : Arguments → Config → Registration
+registers a c = record { config = c; ports = a .ports; chargers = a .chargers }
+
+-- Demand 3, of the run of these calls and of takes from a fresh follower, whose image is kept at x: in any list of them each take is handed a copy of what
+-- the run wrote, or bytes that are turned back.
+pub record Link (f : Functions) (image : List ℕ) (g : Registration) (calls : List ByteCall) (x : List ℕ) : Type 0 where
+  -- The follower says lost, or shows an n with exactly the consumer, both unconstrained figures and tracked ports held when event n closed (0: the start).
+  pub never-wrong :
+      (l : List (List ℕ)) → AllHanded f image g calls l →
+      Lost f (desk f x l) ⊎ ((n : ℕ) × (n ≤ defined g calls .number) × Shows f (desk f x l) n (held g calls n))
+  -- If it shows n and then each event packet n + 1 to n + k comes, in any order, k ≤ 8, all without error, and nothing above n + k anywhere among the takes,
+  -- it shows n + k.
+  pub follows :
+      (before later : List (List ℕ)) (n k : ℕ) → AllHanded f image g calls (before ++ later) → Shows f (desk f x before) n (held g calls n) → k ≤ 8 →
+      Comes f image g calls n k later → NothingAbove f image g calls (n + k) (before ++ later) →
+      Shows f (desk f x (before ++ later)) (n + k) (held g calls (n + k))
+  -- Lost, it shows a picture exactly when that is numbered no lower than every event packet met before.
+  pub recovers :
+      (before : List (List ℕ)) (n : ℕ) (y : List ℕ) → AllHanded f image g calls before → PictureOf f image g calls n y → Lost f (desk f x before) →
+      Shows f (desk f x (before ++ (y ∷ []))) n (held g calls n) ↔ NoEventAbove f image g calls n before
+  -- Whatever else is handed to it, a picture that is too low too, it stays lost.
+  pub stays-lost :
+      (before : List (List ℕ)) (y : List ℕ) → AllHanded f image g calls before → Handed f image g calls y → Lost f (desk f x before) →
+      ((n : ℕ) → PictureOf f image g calls n y → NoEventAbove f image g calls n before → ⊥) →
+      Lost f (desk f x (before ++ (y ∷ [])))
+
+-- Demands 1 and 2, of what a start left, g registered: every list of calls after it, refused ones included. That an event ends in time is of the
+-- definition, which these calls follow (Meaning, below).
+pub record Serves (f : Functions) (image : List ℕ) (g : Registration) : Type 0 where
+  -- A call is refused only on a condition, by the lowest number that applies,
+  pub refuses : (l : List ByteCall) (c : ByteCall) → CallsBytes l → Refuses (conditionsTo (defined g l) c) (returned f (images f image l) c)
+  -- and then (low byte 0) leaves state and lent buffer unchanged.
+  pub turned-back :
+      (l : List ByteCall) (c : ByteCall) → CallsBytes l → returned f (images f image l) c % 256 ≡ 0 →
+      (imageAfter f (images f image l) c ≡ images f image l) × (bufferAfter f (images f image l) c ≡ bufferIn c)
+  -- The same orders and errors for every event and every device answer: whatever call comes next returns what the definition says,
+  pub returns : (l : List ByteCall) (c : ByteCall) → CallsBytes l → returned f (images f image l) c ≡ returnTo (defined g l) c
+  -- and writes it: the notices, and the state that is held but for the power state, which no function tells (Layout.antt has it of ours).
+  pub buffers : (l : List ByteCall) (c : ByteCall) → CallsBytes l → bufferAfter f (images f image l) c ≡ bufferTo (defined g l) c
+  -- A packet written is that event's,
+  pub packet-read :
+      (l : List ByteCall) (buffer y : List ℕ) → CallsBytes l → Writes f (images f image l) (writePacket buffer) y →
+      (e : EventPacket) × (packetTo (defined g l) ≡ SentPacket.Packet e) × (readPacket y ≡ ReadPacket.Packet (Packet.Event e))
+  -- a picture what is held at that number: both are read.
+  pub picture-read :
+      (l : List ByteCall) (buffer y : List ℕ) → CallsBytes l → Writes f (images f image l) (writePicture buffer) y →
+      (v : Picture) × (pictureTo (defined g l) ≡ SentPicture.Picture v) × (readPacket y ≡ ReadPacket.Packet (Packet.Picture v))
+  -- An image stays so many bytes, so that it can be started anew.
+  pub size : (l : List ByteCall) → CallsBytes l → length (images f image l) ≡ serviceLength
+  pub bytes : (l : List ByteCall) → CallsBytes l → AllBytes (images f image l)
+  -- Demand 3.
+  pub link : (calls : List ByteCall) → CallsBytes calls → (x : List ℕ) → length x ≡ followerLength → Link f image g calls x
+
+-- A start, whatever its arguments.
+pub record Starts (f : Functions) (image : List ℕ) (a : Arguments) : Type 0 where
+  -- It is refused only on a condition, by the lowest number that applies, else done;
+  pub lowest : Lowest (startConditions image (configOf a) (a .ports) (a .chargers)) (startRefused image a)
+  pub number : f .start image a .number ≡ doneOr (startRefused image a)
+  -- refused, it leaves the bytes unchanged;
+  pub turned-back : (startRefused image a ≡ 0 → ⊥) → f .start image a .bytes ≡ image
+  -- done, the demands hold of what it left, whatever the bytes were before.
+  pub serves : startRefused image a ≡ 0 → (c : Config) → configOf a ≡ OptionConfig.Some c → Serves f (f .start image a .bytes) (registers a c)
+
+-- The desk, whatever bytes have been taken and are: takes and readers are as the definition's follower has it.
+pub record Follows (f : Functions) (x : List ℕ) : Type 0 where
+  -- A fresh follower is lost.
+  pub fresh-lost : Lost f (desk f x [])
+  -- A packet is refused by the first of 30 to 33 from the left, and then the follower is unchanged.
+  pub take : (l : List (List ℕ)) (y : List ℕ) → EachBytes l → f .take (desk f x l) y .number ≡ takeTo (readPacket y)
+  pub turned-back : (l : List (List ℕ)) (y : List ℕ) (n : ℕ) → EachBytes l → readPacket y ≡ ReadPacket.Refused n → f .take (desk f x l) y .bytes ≡ desk f x l
+  -- The readers tell lost, or the number, level or waiting, both figures, the consumer and the tracked ports of the follower after these takes.
+  pub shown : (l : List (List ℕ)) → EachBytes l → f .shown (desk f x l) ≡ shownAs (stateOf (after l)) (after l .shown)
+  pub consumer : (l : List (List ℕ)) → EachBytes l → f .consumer (desk f x l) ≡ consumerNumber (consumerOf (after l .shown))
+  pub tracked : (l : List (List ℕ)) → EachBytes l → f .tracked (desk f x l) ≡ trackedIn (after l .shown)
+  -- An image stays so many bytes.
+  pub size : (l : List (List ℕ)) → EachBytes l → length (desk f x l) ≡ followerLength
+  pub bytes : (l : List (List ℕ)) → EachBytes l → AllBytes (desk f x l)
+
+-- A follower's start, whatever bytes it is lent.
+pub record FollowerStarts (f : Functions) (x : List ℕ) : Type 0 where
+  -- 21 for bytes of another length than an image's, which stay; else done, and then the desk.
+  pub number : f .follower-start x .number ≡ cond (eqb (length x) followerLength) doneNumber (refusedNumber 21)
+  pub turned-back : eqb (length x) followerLength ≡ false → f .follower-start x .bytes ≡ x
+  pub follows : length x ≡ followerLength → Follows f x
+
+-- Bytes of another length than an image's are refused by 21, whatever the call, and stay.
+pub record OtherLength (f : Functions) : Type 0 where
+  pub service :
+      (b : List ℕ) (c : ByteCall) → eqb (length b) serviceLength ≡ false →
+      (returned f b c ≡ refusedNumber 21) × (imageAfter f b c ≡ b) × (bufferAfter f b c ≡ bufferIn c)
+  pub take :
+      (b y : List ℕ) → eqb (length b) followerLength ≡ false → (f .take b y .number ≡ refusedNumber 21) × (f .take b y .bytes ≡ b)
+  pub readers :
+      (b : List ℕ) → eqb (length b) followerLength ≡ false →
+      (f .shown b ≡ refusedNumber 21) × (f .consumer b ≡ refusedNumber 21) × (f .tracked b ≡ refusedNumber 21)
+
+pub record Promise (f : Functions) : Type 0 where
+  pub start : (image : List ℕ) (a : Arguments) → Starts f image a
+  pub follower-start : (x : List ℕ) → FollowerStarts f x
+  pub other-length : OtherLength f
+
+-- What the definition's words come to, of any g that a start accepts; no function is named here.
+pub record Meaning (g : Registration) : Type 0 where
+  -- Every accepted event closes after at most 3 + 4 × chargers device orders,
+  pub bound : (l : List ByteCall) → CallsBytes l → length (ordersOf (started g) [] (callsOf g l)) ≤ 3 + 4 * g .chargers
+  -- whatever the devices answer.
+  pub closes : (l : List ByteCall) → CallsBytes l → Closes (g .chargers) (defined g l .stand)
+  -- The packet, and the close of a PSU event that a call returns, carry the number of orders given, equal to the length of the definition's list.
+  pub counted : (l : List ByteCall) → Counted (defined g l .stand) (defined g l .orders) (ordersOf (started g) [] (callsOf g l))
+  -- The notices of the packet are the definition's, whole, 0 to 4.
+  pub notices :
+      (l : List ByteCall) (e : EventPacket) → CallsBytes l → packetTo (defined g l) ≡ SentPacket.Packet e →
+      (listed (e .notices) ≡ defined g l .notices) × (length (defined g l .notices) ≤ 4)
+  -- The chosen consumer is none if no port is eligible, else the earliest with most milliwatts, the current one winning ties; and it is held when the event has
+  -- closed without error.
+  pub choice : Choices g
+  -- What is ordered, answered and held is in range.
+  pub orders-fit : (l : List ByteCall) → CallsBytes l → OrderFitsAt (defined g l .stand)
+  pub answers-fit : (l : List ByteCall) → CallsBytes l → defined g l .stand ≡ between → AnswerFits (defined g l .answer)
+  pub held-fits : (l : List ByteCall) (n : ℕ) → CallsBytes l → DisplayFits (held g l n)

@@ -1,0 +1,82 @@
+-- What a run wrote and the link hands over, and what a follower's readers show, of any functions. A run is what a start left, `image`, with what it
+-- registered, g, and the calls after it.
+use Prim.Native.Nat.{ℕ, _+_, _/_, _≤_, _<_}
+use mathlib.Core.List.{List, [], _∷_, _++_}
+use mathlib.Core.Logic.{_⊎_}
+use mathlib.Core.Path.{_≡_}
+use Rattle.power_policy_interface.specs.declared.psu.Result.{Result}
+use Rattle.display.specs.Providers.{none}
+use Rattle.display.specs.declared.Display.{Display}
+use Rattle.display.specs.declared.OptionAvailableConsumer.{OptionAvailableConsumer}
+use Rattle.event.specs.declared.memory.Registration.{Registration}
+use Rattle.wire.specs.Read.{readPacket}
+use Rattle.wire.specs.declared.packet.ReadPacket.{ReadPacket}
+use Rattle.follower.specs.declared.State.{State}
+use Rattle.calls.specs.Numbers.{lostNumber, shownNumber, consumerNumber, trackedNumber}
+use Rattle.exported.specs.Calls.{ByteCall, writePacket, writePicture, images, Writes}
+use Rattle.exported.specs.Functions.{Functions}
+use Rattle.run_image.specs.Definition.{defined}
+
+module _ (f : Functions) (image : List ℕ) (g : Registration) (calls : List ByteCall) where
+  -- these bytes are the packet of event n: a call of the run has written them when n was the event closed last
+  pub record PacketOf (n : ℕ) (y : List ℕ) : Type 0 where
+    pub before : List ByteCall
+    pub buffer : List ℕ
+    pub rest : List ByteCall
+    pub among : calls ≡ before ++ (writePacket buffer ∷ rest)
+    pub writes : Writes f (images f image before) (writePacket buffer) y
+    pub number : defined g before .number ≡ n
+
+  -- likewise the picture of what was held then (0: the start)
+  pub record PictureOf (n : ℕ) (y : List ℕ) : Type 0 where
+    pub before : List ByteCall
+    pub buffer : List ℕ
+    pub rest : List ByteCall
+    pub among : calls ≡ before ++ (writePicture buffer ∷ rest)
+    pub writes : Writes f (images f image before) (writePicture buffer) y
+    pub number : defined g before .number ≡ n
+
+  -- what the link hands over: a copy of a packet or picture of the run, or bytes that 30 to 33 turn back
+  pub data Handed (y : List ℕ) : Type 0 where
+    packet : (n : ℕ) → PacketOf n y → Handed y
+    picture : (n : ℕ) → PictureOf n y → Handed y
+    turned-back : (n : ℕ) → readPacket y ≡ ReadPacket.Refused n → Handed y
+
+  -- in any order and however often
+  abbrev pub AllHanded : List (List ℕ) → Type 0
+  AllHanded [] = Unit {0}
+  AllHanded (y ∷ l) = Handed y × AllHanded l
+
+  -- among the takes
+
+  abbrev pub In : List ℕ → List (List ℕ) → Type 0
+  In y [] = ⊥
+  In y (z ∷ l) = (z ≡ y) ⊎ In y l
+
+  -- each event packet from n + 1 to n + k is, without error
+  abbrev pub Comes : ℕ → ℕ → List (List ℕ) → Type 0
+  Comes n k l =
+      (j : ℕ) → n < j → j ≤ n + k → (y : List ℕ) × In y l × ((w : PacketOf j y) × (defined g (w .before) .answer ≡ Result.Ok))
+
+  -- nothing above this number is: no packet and no picture
+  abbrev pub NothingAbove : ℕ → List (List ℕ) → Type 0
+  NothingAbove m l = (n : ℕ) (y : List ℕ) → In y l → PacketOf n y ⊎ PictureOf n y → n ≤ m
+
+  -- every event packet met is numbered so or lower
+  abbrev pub NoEventAbove : ℕ → List (List ℕ) → Type 0
+  NoEventAbove m l = (n : ℕ) (y : List ℕ) → In y l → PacketOf n y → n ≤ m
+
+-- what an image of the follower shows is what the three readers return
+
+pub record Lost (f : Functions) (b : List ℕ) : Type 0 where
+  pub shown : f .shown b ≡ lostNumber
+  pub consumer : f .consumer b ≡ consumerNumber OptionAvailableConsumer.None
+  pub tracked : f .tracked b ≡ trackedNumber none
+
+pub record Shows (f : Functions) (b : List ℕ) (n : ℕ) (d : Display) : Type 0 where
+  -- level or waiting
+  pub shown : (f .shown b ≡ shownNumber State.Level n d) ⊎ (f .shown b ≡ shownNumber State.Waiting n d)
+  -- the number stands alone in the four bytes above
+  pub number : f .shown b / 4294967296 ≡ n
+  pub consumer : f .consumer b ≡ consumerNumber (d .consumer)
+  pub tracked : f .tracked b ≡ trackedNumber (d .providers)

@@ -1,0 +1,139 @@
+-- The second programs of document 01, "To the testers": each changes one of our functions.
+use Prim.Native.Nat.{ℕ, _-_}
+use mathlib.Core.Bool.{cond}
+use mathlib.Core.List.{List, _++_}
+use lib.Dec.{eqb}
+use lib.ListN.{length, drop, getD, set}
+use Rattle.display.specs.Providers.{none}
+use Rattle.display.specs.declared.OptionAvailableConsumer.{OptionAvailableConsumer}
+use Rattle.power_policy_interface.specs.declared.psu.Result.{Result}
+use Rattle.calls.specs.Called.{Called, called}
+use Rattle.calls.specs.Numbers.{refusedNumber, closedNumber, lostNumber, consumerNumber, trackedNumber}
+use Rattle.exported.specs.Functions.{Functions}
+use Rattle.exported.specs.Ours.{functions}
+use Rattle.promise.specs.Promise.{Promise}
+
+-- another function for an opening, for an answer, for a packet, for a take, or other readers
+
+abbrev withOpen : (List ℕ → List ℕ → List ℕ → ℕ → ℕ → ℕ → Called) → Functions
+withOpen o = record {
+  start = functions .start;
+  open-event = o;
+  answer = functions .answer;
+  order = functions .order;
+  write-packet = functions .write-packet;
+  write-picture = functions .write-picture;
+  follower-start = functions .follower-start;
+  take = functions .take;
+  shown = functions .shown;
+  consumer = functions .consumer;
+  tracked = functions .tracked;
+}
+
+abbrev withAnswer : (List ℕ → List ℕ → List ℕ → ℕ → Called) → Functions
+withAnswer o = record {
+  start = functions .start;
+  open-event = functions .open-event;
+  answer = o;
+  order = functions .order;
+  write-packet = functions .write-packet;
+  write-picture = functions .write-picture;
+  follower-start = functions .follower-start;
+  take = functions .take;
+  shown = functions .shown;
+  consumer = functions .consumer;
+  tracked = functions .tracked;
+}
+
+abbrev withPacket : (List ℕ → List ℕ → Called) → Functions
+withPacket o = record {
+  start = functions .start;
+  open-event = functions .open-event;
+  answer = functions .answer;
+  order = functions .order;
+  write-packet = o;
+  write-picture = functions .write-picture;
+  follower-start = functions .follower-start;
+  take = functions .take;
+  shown = functions .shown;
+  consumer = functions .consumer;
+  tracked = functions .tracked;
+}
+
+abbrev withTake : (List ℕ → List ℕ → Called) → Functions
+withTake o = record {
+  start = functions .start;
+  open-event = functions .open-event;
+  answer = functions .answer;
+  order = functions .order;
+  write-packet = functions .write-packet;
+  write-picture = functions .write-picture;
+  follower-start = functions .follower-start;
+  take = o;
+  shown = functions .shown;
+  consumer = functions .consumer;
+  tracked = functions .tracked;
+}
+
+abbrev withReaders : ℕ → ℕ → ℕ → Functions
+withReaders s c t = record {
+  start = functions .start;
+  open-event = functions .open-event;
+  answer = functions .answer;
+  order = functions .order;
+  write-packet = functions .write-packet;
+  write-picture = functions .write-picture;
+  follower-start = functions .follower-start;
+  take = functions .take;
+  shown = λ b. s;
+  consumer = λ b. c;
+  tracked = λ b. t;
+}
+
+-- "A follower that says lost from the first packet"
+abbrev pub alwaysLost : Functions
+alwaysLost = withReaders lostNumber (consumerNumber OptionAvailableConsumer.None) (trackedNumber none)
+
+-- "One that shows pictures and ignores events": a packet of kind 1 leaves the follower as it was
+abbrev pub deaf : Functions
+deaf = withTake (λ b y. called (functions .take b y .number) (cond (eqb (getD y 0 0) 1) b (functions .take b y .bytes)))
+
+-- "A service that gives every order while opening and ignores later answers": a call returns one order, so that what is left of it is that every answer counts
+-- as done
+abbrev pub ignoresAnswers : Functions
+ignoresAnswers = withAnswer (λ b psus chargers a. functions .answer b psus chargers 0)
+
+-- "A packet whose order count is invented": byte 3, where the orders stand of an event numbered below 128, is 35
+abbrev pub inventsCount : Functions
+inventsCount = withPacket (λ b buffer. called (functions .write-packet b buffer .number) (set (functions .write-packet b buffer .bytes) 3 35))
+
+-- "A chooser that always names port 0": port 0 is taken to offer what the last port does, and of equals it is the earlier
+abbrev pub alwaysPort0 : Functions
+alwaysPort0 =
+    withOpen
+    (λ b psus chargers kind device detail.
+    functions .open-event b (drop (length psus - 18) psus ++ drop 18 psus) chargers kind device detail)
+
+-- "a service that orders nothing": every event closes at once
+abbrev pub ordersNothing : Functions
+ordersNothing = withOpen (λ b psus chargers kind device detail. called (closedNumber Result.Ok 0) b)
+
+-- "an entry that turns every event back", with whatever number
+abbrev pub turnsBack : ℕ → Functions
+turnsBack n = withOpen (λ b psus chargers kind device detail. called (refusedNumber n) b)
+
+-- "A full tracked set that stays full after removals": a Detached only updates the consumer
+abbrev pub staysFull : Functions
+staysFull =
+    withOpen (λ b psus chargers kind device detail. functions .open-event b psus chargers (cond {A = ℕ} (eqb kind 4) 1 kind) device detail)
+
+-- none of them keeps the promise
+pub record Testers : Type 0 where
+  pub always-lost : Promise alwaysLost → ⊥
+  pub deaf : Promise deaf → ⊥
+  pub ignores-answers : Promise ignoresAnswers → ⊥
+  pub invents-count : Promise inventsCount → ⊥
+  pub always-port-0 : Promise alwaysPort0 → ⊥
+  pub orders-nothing : Promise ordersNothing → ⊥
+  pub turns-back : (n : ℕ) → Promise (turnsBack n) → ⊥
+  pub stays-full : Promise staysFull → ⊥
