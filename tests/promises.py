@@ -1,0 +1,156 @@
+#!/usr/bin/env python3
+"""usage: promises.py
+
+Holds docs/PROMISES.md against the sources. Of a crate with a table of functions: each row's function is there and as public as the row says, each function
+has its row, the edits that the row names are those that break the function, and what is counted above the table is what the table has. Every name in the columns
+of definitions, functions and laws is declared somewhere, and every file named is there. Every table has its head.
+Writes a line for what is wrong, and last 'N passed, M failed'; a row, a name or a count is one test.
+"""
+import os
+import re
+import sys
+
+ROOT = os.path.dirname(os.path.dirname(os.path.abspath(__file__)))
+DOC = os.path.join(ROOT, "docs", "PROMISES.md")
+
+# Names of the language and of its library, and words that are no name.
+LIBRARY = {"getD", "max", "cond", "take", "drop", "_&&_", "&", "&mut", "<<", "rust/model", "ptr", "eq"}
+
+
+def files(folder, ending):
+    for at, _, names in sorted(os.walk(os.path.join(ROOT, folder))):
+        for name in sorted(names):
+            if name.endswith(ending):
+                yield os.path.join(at, name)
+
+
+def text(path):
+    with open(path, encoding="utf-8") as f:
+        return f.read()
+
+
+def functions(crate):
+    """How public each function of a crate is, by its path."""
+    found = {}
+    source = os.path.join(ROOT, "crates", crate, "src")
+    for path in files(os.path.join("crates", crate, "src"), ".rt"):
+        module = os.path.relpath(path, source)[:-3].split(os.sep)
+        module = [] if module in (["lib"], ["main"]) else module
+        around = []
+        for line in text(path).split("\n"):
+            m = re.match(r"impl (\w+) \{", line)
+            if m:
+                around = [m.group(1)]
+            elif line.startswith("}"):
+                around = []
+            m = re.match(r' *(pub |pub\(crate\) )?(?:extern "C" )?fn (\w+)\(', line)
+            if m:
+                found["::".join(module + around + [m.group(2)])] = {None: "private", "pub ": "", "pub(crate) ": "in the crate"}[m.group(1)]
+    return found
+
+
+def breaks(crate):
+    """The functions that each numbered edit of a crate breaks."""
+    found = {}
+    for folder in (os.path.join("crates", crate, "must-fail"), os.path.join("tests", "edits", crate)):
+        for path in files(folder, ".edit"):
+            m = re.search(r"wrong_(\d)\.edit$", path)
+            if m:
+                found[m.group(1)] = set(re.findall(r"^# breaks: (\S+)", text(path), re.M))
+    return found
+
+
+def declared():
+    """Every name that a specification, proof or source declares."""
+    found = set(os.listdir(os.path.join(ROOT, "crates")))
+    for path in files("crates", ".antt"):
+        found |= set(re.findall(r"^ *(?:(?:abbrev|unfoldable) )?(?:pub )?(?:(?:record|data) )?([^\s(){}:]+)(?= [^=]*:)", text(path), re.M))
+        found |= set(re.findall(r"^ *(?:pub )?(?:record|data) (\S+)", text(path), re.M))
+    for path in files("crates", ".rt"):
+        found |= set(re.findall(r"(?:fn|struct|enum|mod) (\w+)", text(path)))
+        found |= set(re.findall(r"^ +(?:pub )?(\w+)[(,:]", text(path), re.M))
+    return found
+
+
+def cells(line):
+    return [cell.strip() for cell in line.strip().strip("|").split("|")]
+
+
+def tables(lines):
+    """Each table: the section that it is in, the name alone on a line before it, its head, and its rows with their line numbers. A row without a head is
+    a table of no head."""
+    section = alone = ""
+    i = 0
+    while i < len(lines):
+        line = lines[i]
+        if line.startswith("## "):
+            section, alone = line[3:].strip(), ""
+        elif re.fullmatch(r"`\w+`", line):
+            alone = line.strip("`")
+        elif line.startswith("|"):
+            end = i
+            while end < len(lines) and lines[end].startswith("|"):
+                end += 1
+            headed = end > i + 1 and lines[i + 1].startswith("|---")
+            start = i + 2 if headed else i
+            yield section, alone, cells(line) if headed else [], [(k + 1, cells(lines[k])) for k in range(start, end)]
+            i = end
+            continue
+        i += 1
+
+
+def wrong():
+    """What each test finds: a line, or nothing."""
+    lines = text(DOC).split("\n")
+    names = declared()
+    antt = {os.path.basename(path) for path in files("crates", ".antt")}
+    rows = {}
+    for section, alone, head, body in tables(lines):
+        if not head:
+            yield "line %d: rows without a head" % body[0][0]
+            continue
+        for number, row in body:
+            yield "" if len(row) == len(head) else "line %d: %d columns under %d" % (number, len(row), len(head))
+        for k, title in enumerate(head):
+            if title in ("definition", "function", "law", "theorem or contract", "rendered by", "proved by"):
+                for number, row in body:
+                    cell = row[k] if k < len(row) else ""
+                    for name in {n for q in re.findall(r"`([^`]+)`", cell) for n in re.split(r"::|[\s,.()]+", q) if n and not n.isdigit()}:
+                        yield "" if name in names | LIBRARY else "line %d: %s is declared nowhere" % (number, name)
+                    for name in re.findall(r"\b\w+\.antt\b", cell):
+                        yield "" if name in antt else "line %d: there is no %s" % (number, name)
+        if head[0] == "function" and os.path.isdir(os.path.join(ROOT, "crates", section)):
+            there, broken = functions(section), breaks(section)
+            for number, row in body:
+                m = re.fullmatch(r"`([\w:]+)`(?: \((private|in the crate)\))?", row[0])
+                name = m and (m.group(1) if m.group(1) in there else alone + "::" + m.group(1))
+                if name not in there:
+                    yield "line %d: there is no function %s in %s" % (number, row[0], section)
+                    continue
+                rows.setdefault(section, []).append((name, row))
+                public = m.group(2) or ""
+                yield "" if there[name] == public else "line %d: %s is %s" % (number, name, there[name] or "public")
+                said = set(re.findall(r"\((\d)\)", row[2]))
+                have = {edit for edit, of in broken.items() if name in of}
+                yield "" if said == have else "line %d: %s is broken by edits %s" % (number, name, sorted(have))
+    for section, found in rows.items():
+        for name in sorted(set(functions(section)) - {name for name, _ in found}):
+            yield "%s: %s has no row" % (section, name)
+        body = text(DOC).split("\n## %s\n" % section)[1].split("\n## ")[0]
+        answers = sum(len(re.findall(r"\(\d\)", row[2])) for _, row in found)
+        for word, count in (("functions", len(found)), ("wrong answers", answers)):
+            for said in re.findall(r"\b(\d+) %s" % word, body):
+                yield "" if int(said) == count else "%s: %s %s are said, %d are in the table" % (section, said, word, count)
+
+
+def main():
+    found = list(wrong())
+    for line in found:
+        if line:
+            print(line)
+    failed = sum(1 for line in found if line)
+    print("%d passed, %d failed" % (len(found) - failed, failed))
+    sys.exit(1 if failed else 0)
+
+
+main()
