@@ -1,3 +1,4 @@
 pub mod Source
 pub mod Takes
 pub mod Link
+pub mod Alike

@@ -1,0 +1,79 @@
+-- The follower of the code, whose packets wait in a ring of eight places, and document 01's, whose packets wait in a list: they do and say the same.
+-- Proved in proofs/Alike.antt.
+use Prim.Native.Nat.{ℕ, zero, suc, _+_, _<_}
+use mathlib.Core.Bool.{cond}
+use mathlib.Core.List.{List, [], _∷_, _++_}
+use mathlib.Core.Logic.{_↔_}
+use mathlib.Core.Option.{none, some}
+use mathlib.Core.Path.{_≡_}
+use lib.ListN.{getD}
+use Rattle.display.specs.declared.Display.{Display}
+use Rattle.display.specs.declared.packet.EventPacket.{EventPacket}
+use Rattle.display.specs.declared.packet.Packet.{Packet}
+use Rattle.wire.specs.Read.{readPacket}
+use Rattle.wire.specs.declared.packet.ReadPacket.{ReadPacket}
+use Rattle.abstract_desk.specs.Follower as paper
+use Rattle.abstract_desk.specs.State as said
+use Rattle.follower.specs.Follower.{fresh, taken, stateOf}
+use Rattle.follower.specs.Held.{heldFor, holds}
+use Rattle.follower.specs.WellFormed.{WellFormed, Readable}
+use Rattle.follower.specs.declared.Follower.{Follower}
+use Rattle.follower.specs.declared.Shown.{Shown}
+use Rattle.follower.specs.declared.State.{State}
+use Rattle.follower.specs.declared.held.Held.{Held}
+use Rattle.link.specs.Link.{after}
+use Rattle.link.specs.Takes.{Lost, Shows}
+
+-- the packet of event m, if the ring holds it
+abbrev pub one : Held → ℕ → List EventPacket
+one h m = cond (holds h m) (heldFor h m ∷ []) []
+
+-- those of the k events from m on, in rising order
+unfoldable pub heldFrom : Held → ℕ → ℕ → List EventPacket
+heldFrom h m zero = []
+heldFrom h m (suc k) = one h m ++ heldFrom h (m + 1) k
+
+-- a follower of the code, as document 01 has it: what waits are the packets of n + 2 to n + 8
+abbrev pub seenAt : Shown → Held → paper.Follower
+seenAt (Shown.Lost floor) h = paper.lost floor
+seenAt (Shown.Picture s) h = paper.showing (s .number) (s .display) (heldFrom h (s .number + 2) 7)
+
+abbrev pub seen : Follower → paper.Follower
+seen f = seenAt (f .shown) (f .held)
+
+abbrev pub stateSeen : State → said.State
+stateSeen State.Lost = said.lost
+stateSeen State.Level = said.level
+stateSeen State.Waiting = said.waiting
+
+-- takes of document 01's follower: bytes that are turned back change nothing
+abbrev pub readBy : paper.Follower → ReadPacket → paper.Follower
+readBy f (ReadPacket.Refused n) = f
+readBy f (ReadPacket.Packet p) = paper.taken f p
+
+abbrev pub takesBy : paper.Follower → List (List ℕ) → paper.Follower
+takesBy f [] = f
+takesBy f (b ∷ l) = takesBy (readBy f (readPacket b)) l
+
+abbrev pub paperAfter : List (List ℕ) → paper.Follower
+paperAfter l = takesBy paper.fresh l
+
+-- each take is handed bytes
+abbrev pub EachOfBytes : List (List ℕ) → Type 0
+EachOfBytes [] = Unit {0}
+EachOfBytes (b ∷ l) = ((k : ℕ) → getD b k 0 < 256) × EachOfBytes l
+
+pub record Alike : Type 0 where
+  -- they start alike
+  pub start : seen fresh ≡ paper.fresh
+  -- a packet that a reader gives makes the same of both
+  pub one-take : (f : Follower) (p : Packet) → WellFormed f → Readable p → seen (taken f p) ≡ paper.taken (seen f) p
+  -- they say the same state,
+  pub state : (f : Follower) → WellFormed f → stateSeen (stateOf f) ≡ paper.state (seen f)
+  -- are lost alike, and show the same
+  pub lost : (f : Follower) → Lost f ↔ (paper.shown (seen f) ≡ none)
+  pub shows : (f : Follower) (n : ℕ) (d : Display) → Shows f n d ↔ (paper.shown (seen f) ≡ some (record { number = n; display = d }))
+  -- from a fresh follower on, after any bytes taken, they are alike
+  pub takes-alike : (l : List (List ℕ)) → EachOfBytes l → seen (after l) ≡ paperAfter l
+  -- and say the same
+  pub takes-state : (l : List (List ℕ)) → EachOfBytes l → stateSeen (stateOf (after l)) ≡ paper.state (paperAfter l)
