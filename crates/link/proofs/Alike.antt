@@ -31,8 +31,9 @@ use Rattle.follower.specs.declared.held.Held.{Held}
 use Rattle.follower.proofs.Floor.{placed-floor}
 use Rattle.follower.proofs.Kept.{mod8, nothing-within, go-within, event-within, picture-within, fresh-kept, take-kept}
 use Rattle.follower.proofs.Laws.{event-old, event-held, event-new, event-beyond, picture-old, picture-new}
-use Rattle.link.specs.Alike.{one, heldFrom, seenAt, seen, stateSeen, readBy, takesBy, EachOfBytes, Alike}
+use Rattle.link.specs.Alike.{one, heldFrom, seenAt, seen, stateSeen, Alike}
 use Rattle.link.specs.Link.{after}
+use Rattle.link.specs.Paper.{readBy, takesBy, EachOfBytes, Rising}
 use Rattle.link.specs.Takes.{takenRead, take, takes}
 use Rattle.link.proofs.Places.{Has, has-bounds}
 use Rattle.link.proofs.Lists.{readable}
@@ -354,6 +355,31 @@ takes-alike (b ∷ l) f a w =
     takes-alike l (take f b) (a .1) (read-formed b f (a .0) w (readPacket b) refl)
     ∙ ap (λ (x : paper.Follower). takesBy x l) (read-alike b f (a .0) w (readPacket b) refl)
 
+-- what waits
+
+wider : (lo lo' hi : ℕ) (l : List EventPacket) → lo ≤ lo' → Rising lo' hi l → Rising lo hi l
+wider lo lo' hi [] a r = r
+wider lo lo' hi (e ∷ l) a r = (omega (arith, a, r .0), r .1, r .2)
+
+from-rises : (h : Held) (hi k m : ℕ) → m + k ≤ hi + 1 → Rising m hi (heldFrom h m k)
+unfolding heldFrom
+from-rises h hi zero m l = tt
+from-rises h hi (suc k) m l = go (holds h m) refl (from-rises h hi k (m + 1) (omega arith))
+  where
+    go : (t : Bool) → holds h m ≡ t → Rising (m + 1) hi (heldFrom h (m + 1) k) → Rising m hi (cond t (heldFor h m ∷ []) [] ++ heldFrom h (m + 1) k)
+    go true t r =
+        let x : heldFor h m .number ≡ m = eqb-true _ _ t in
+        (omega arith, omega arith, subst (λ (z : ℕ). Rising (z + 1) hi (heldFrom h (m + 1) k)) (sym x) r)
+    go false t r = wider m (m + 1) hi (heldFrom h (m + 1) k) (omega arith) r
+
+abbrev Waits : paper.Follower → Type 0
+Waits (paper.lost floor) = Unit {0}
+Waits (paper.showing n d held) = Rising (n + 2) (n + 8) held
+
+seen-waits : (x : Shown) (h : Held) → Waits (seenAt x h)
+seen-waits (Shown.Lost floor) h = tt
+seen-waits (Shown.Picture s) h = from-rises h (s .number + 8) 7 (s .number + 2) (omega arith)
+
 pub alike : Alike
 alike = record {
   start = refl;
@@ -365,4 +391,5 @@ alike = record {
   takes-state = λ l a.
       state-at (after l .shown) (after l .held) (takes-formed l fresh a fresh-kept)
       ∙ ap (λ (x : paper.Follower). paper.state x) (takes-alike l fresh a fresh-kept);
+  rising = λ l a n d held e. subst Waits (takes-alike l fresh a fresh-kept ∙ e) (seen-waits (after l .shown) (after l .held));
 }

@@ -1,17 +1,14 @@
 -- The follower of the code, whose packets wait in a ring of eight places, and document 01's, whose packets wait in a list: they do and say the same.
 -- Proved in proofs/Alike.antt.
-use Prim.Native.Nat.{ℕ, zero, suc, _+_, _<_}
+use Prim.Native.Nat.{ℕ, zero, suc, _+_}
 use mathlib.Core.Bool.{cond}
 use mathlib.Core.List.{List, [], _∷_, _++_}
 use mathlib.Core.Logic.{_↔_}
 use mathlib.Core.Option.{none, some}
 use mathlib.Core.Path.{_≡_}
-use lib.ListN.{getD}
 use Rattle.display.specs.declared.Display.{Display}
 use Rattle.display.specs.declared.packet.EventPacket.{EventPacket}
 use Rattle.display.specs.declared.packet.Packet.{Packet}
-use Rattle.wire.specs.Read.{readPacket}
-use Rattle.wire.specs.declared.packet.ReadPacket.{ReadPacket}
 use Rattle.abstract_desk.specs.Follower as paper
 use Rattle.abstract_desk.specs.State as said
 use Rattle.follower.specs.Follower.{fresh, taken, stateOf}
@@ -22,6 +19,7 @@ use Rattle.follower.specs.declared.Shown.{Shown}
 use Rattle.follower.specs.declared.State.{State}
 use Rattle.follower.specs.declared.held.Held.{Held}
 use Rattle.link.specs.Link.{after}
+use Rattle.link.specs.Paper.{paperAfter, EachOfBytes, Rising}
 use Rattle.link.specs.Takes.{Lost, Shows}
 
 -- the packet of event m, if the ring holds it
@@ -46,23 +44,6 @@ stateSeen State.Lost = said.lost
 stateSeen State.Level = said.level
 stateSeen State.Waiting = said.waiting
 
--- takes of document 01's follower: bytes that are turned back change nothing
-abbrev pub readBy : paper.Follower → ReadPacket → paper.Follower
-readBy f (ReadPacket.Refused n) = f
-readBy f (ReadPacket.Packet p) = paper.taken f p
-
-abbrev pub takesBy : paper.Follower → List (List ℕ) → paper.Follower
-takesBy f [] = f
-takesBy f (b ∷ l) = takesBy (readBy f (readPacket b)) l
-
-abbrev pub paperAfter : List (List ℕ) → paper.Follower
-paperAfter l = takesBy paper.fresh l
-
--- each take is handed bytes
-abbrev pub EachOfBytes : List (List ℕ) → Type 0
-EachOfBytes [] = Unit {0}
-EachOfBytes (b ∷ l) = ((k : ℕ) → getD b k 0 < 256) × EachOfBytes l
-
 pub record Alike : Type 0 where
   -- they start alike
   pub start : seen fresh ≡ paper.fresh
@@ -77,3 +58,7 @@ pub record Alike : Type 0 where
   pub takes-alike : (l : List (List ℕ)) → EachOfBytes l → seen (after l) ≡ paperAfter l
   -- and say the same
   pub takes-state : (l : List (List ℕ)) → EachOfBytes l → stateSeen (stateOf (after l)) ≡ paper.state (paperAfter l)
+  -- what waits are packets of the events n + 2 to n + 8, in rising order
+  pub rising :
+      (l : List (List ℕ)) → EachOfBytes l → (n : ℕ) (d : Display) (held : List EventPacket) → paperAfter l ≡ paper.showing n d held →
+      Rising (n + 2) (n + 8) held
