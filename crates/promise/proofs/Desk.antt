@@ -1,4 +1,5 @@
--- The desk's calls on an image that a follower start left, whatever bytes are taken: the image is read as the definition's follower after them.
+-- The desk's calls on an image that a follower start left, whatever bytes are taken: the image is read as the code's follower after them, which says what
+-- document 01's does (link proofs/Alike.antt).
 use mathlib.Core.Path.{_≡_, refl, sym, ap, _∙_, subst}
 use mathlib.Core.Bool.{Bool, true, false, cond}
 use mathlib.Core.List.{List, [], _∷_}
@@ -9,19 +10,27 @@ use Rattle.records.specs.Row.{AllBytes}
 use Rattle.wire.specs.Read.{readPacket}
 use Rattle.wire.specs.declared.packet.ReadPacket.{ReadPacket}
 use Rattle.follower.specs.Follower.{fresh, stateOf, consumerOf}
+use Rattle.abstract_desk.specs.Follower as paper
 use Rattle.follower.specs.declared.Follower.{Follower}
+use Rattle.follower.specs.declared.Shown.{Shown}
+use Rattle.follower.specs.declared.State.{State}
+use Rattle.follower.specs.declared.held.Held.{Held}
+use Rattle.link.specs.Alike.{seenAt, seen, stateSeen}
 use Rattle.link.specs.Link.{after}
+use Rattle.link.specs.Paper.{paperAfter}
+use Rattle.link.proofs.Alike.{alike}
 use Rattle.follower_image.specs.Image.{followerBytes, followerFrom}
 use Rattle.follower_image.specs.declared.ReadFollower.{ReadFollower}
 use Rattle.follower_image.proofs.OneImage.{follower-length, follower-bytes}
 use Rattle.calls.specs.Called.{Called, called, refusedCall}
 use Rattle.calls.specs.Calls.{takenCall, takeCall, readerCall}
 use Rattle.calls.specs.Lent.{takeTo, shownAs, trackedIn}
-use Rattle.calls.specs.Numbers.{doneNumber, refusedNumber, consumerNumber}
+use Rattle.calls.specs.Numbers.{doneNumber, refusedNumber, shownNumber, consumerNumber}
 use Rattle.exported.specs.Calls.{desk, EachBytes}
 use Rattle.exported.specs.Ours.{functions}
 use Rattle.run_image.proofs.Takes.{each-keeps, desk-is, desk-fits, desk-read}
 use Rattle.promise.specs.Promise.{Follows, FollowerStarts}
+use Rattle.promise.specs.Runs.{stateIn, shownBy, consumerBy, trackedBy}
 
 taken-number : (b : List ℕ) (f : Follower) (y : ReadPacket) → takenCall b f y .number ≡ takeTo y
 taken-number b f (ReadPacket.Refused n) = refl
@@ -47,6 +56,40 @@ module _ (x : List ℕ) (e : length x ≡ 241) (l : List (List ℕ)) (a : EachBy
   told : (t : Follower → ℕ) → readerCall (followerFrom (desk functions x l)) t ≡ t (after l)
   told t = ap (λ (r : ReadFollower). readerCall r t) read
 
+-- what the code's follower tells is what document 01's does
+
+state-in : (t : State) → stateIn (stateSeen t) ≡ t
+state-in State.Lost = refl
+state-in State.Level = refl
+state-in State.Waiting = refl
+
+shown-by : (s : Shown) (h : Held) (t : State) → stateSeen t ≡ paper.state (seenAt s h) → shownAs t s ≡ shownBy (seenAt s h)
+shown-by (Shown.Lost floor) h t e = refl
+shown-by (Shown.Picture s) h t e = ap (λ (u : State). shownNumber u (s .number) (s .display)) (sym (state-in t) ∙ ap stateIn e)
+
+consumer-by : (s : Shown) (h : Held) → consumerNumber (consumerOf s) ≡ consumerBy (seenAt s h)
+consumer-by (Shown.Lost floor) h = refl
+consumer-by (Shown.Picture s) h = refl
+
+tracked-by : (s : Shown) (h : Held) → trackedIn s ≡ trackedBy (seenAt s h)
+tracked-by (Shown.Lost floor) h = refl
+tracked-by (Shown.Picture s) h = refl
+
+module _ (l : List (List ℕ)) (a : EachBytes l) where
+  same : seen (after l) ≡ paperAfter l
+  same = alike .takes-alike l a
+
+  shown-same : shownAs (stateOf (after l)) (after l .shown) ≡ shownBy (paperAfter l)
+  shown-same =
+      shown-by (after l .shown) (after l .held) (stateOf (after l)) (alike .takes-state l a ∙ ap (λ (p : paper.Follower). paper.state p) (sym same))
+      ∙ ap shownBy same
+
+  consumer-same : consumerNumber (consumerOf (after l .shown)) ≡ consumerBy (paperAfter l)
+  consumer-same = consumer-by (after l .shown) (after l .held) ∙ ap consumerBy same
+
+  tracked-same : trackedIn (after l .shown) ≡ trackedBy (paperAfter l)
+  tracked-same = tracked-by (after l .shown) (after l .held) ∙ ap trackedBy same
+
 ours-follows : (x : List ℕ) → length x ≡ 241 → Follows functions x
 ours-follows x e = record {
   fresh-lost = record {
@@ -56,9 +99,9 @@ ours-follows x e = record {
   };
   take = λ l y a. number x e l a y;
   turned-back = λ l y n a q. back x e l a y n q;
-  shown = λ l a. told x e l a (λ f. shownAs (stateOf f) (f .shown));
-  consumer = λ l a. told x e l a (λ f. consumerNumber (consumerOf (f .shown)));
-  tracked = λ l a. told x e l a (λ f. trackedIn (f .shown));
+  shown = λ l a. told x e l a (λ f. shownAs (stateOf f) (f .shown)) ∙ shown-same l a;
+  consumer = λ l a. told x e l a (λ f. consumerNumber (consumerOf (f .shown))) ∙ consumer-same l a;
+  tracked = λ l a. told x e l a (λ f. trackedIn (f .shown)) ∙ tracked-same l a;
   size = λ l a. size x e l a;
   bytes = λ l a. subst AllBytes (sym (desk-is x e l (each-keeps l a))) (follower-bytes (after l) (desk-fits x e l (each-keeps l a)));
 }

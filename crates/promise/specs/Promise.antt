@@ -12,7 +12,7 @@
 --   power_policy_service specs/Config.antt, Consumer.antt, Choice.antt, Provider.antt; service specs/Refusals.antt; send specs/Send.antt
 --   calls specs/Numbers.antt, OneToOne.antt, Lent.antt             the numbers returned, and what they tell
 --   wire specs/Number.antt, Packet.antt, Bytes.antt, Read.antt     packets and pictures
---   follower specs/Follower.antt, link specs/Takes.antt            the desk
+--   abstract_desk specs/Follower.antt, link specs/Paper.antt       the desk, as document 01 says it
 use Prim.Native.Nat.{ℕ, _+_, _*_, _%_, _≤_}
 use mathlib.Core.Bool.{Bool, true, false, cond}
 use mathlib.Core.List.{List, [], _∷_, _++_}
@@ -33,10 +33,9 @@ use Rattle.send.specs.declared.SentPacket.{SentPacket}
 use Rattle.send.specs.declared.SentPicture.{SentPicture}
 use Rattle.wire.specs.Read.{readPacket}
 use Rattle.wire.specs.declared.packet.ReadPacket.{ReadPacket}
-use Rattle.follower.specs.Follower.{stateOf, consumerOf}
-use Rattle.link.specs.Link.{after}
-use Rattle.calls.specs.Lent.{takeTo, shownAs, trackedIn}
-use Rattle.calls.specs.Numbers.{refusedNumber, doneNumber, consumerNumber}
+use Rattle.link.specs.Paper.{paperAfter}
+use Rattle.calls.specs.Lent.{takeTo}
+use Rattle.calls.specs.Numbers.{refusedNumber, doneNumber}
 use Rattle.calls.specs.OneToOne.{AnswerFits, DisplayFits}
 use Rattle.run.specs.Chosen.{Choices}
 use Rattle.run.specs.Orders.{ordersOf, Counted}
@@ -45,7 +44,7 @@ use Rattle.run.specs.Run.{packetTo, pictureTo}
 use Rattle.exported.specs.Calls.{ByteCall, writePacket, writePicture, bufferIn, CallsBytes, imageAfter, returned, bufferAfter, images, Writes, desk, EachBytes}
 use Rattle.exported.specs.Functions.{Functions, Arguments, configOf}
 use Rattle.run_image.specs.Definition.{callsOf, defined, held, Closes, OrderFitsAt, returnTo, bufferTo, conditionsTo, startConditions, Refuses}
-use Rattle.promise.specs.Runs.{PictureOf, Handed, AllHanded, Comes, NothingAbove, NoEventAbove, Lost, Shows}
+use Rattle.promise.specs.Runs.{PictureOf, Handed, AllHanded, Comes, NothingAbove, NoEventAbove, Lost, Shows, shownBy, consumerBy, trackedBy}
 
 -- the lengths of the images, which the header names
 abbrev pub serviceLength : ℕ
@@ -125,7 +124,7 @@ pub record Starts (f : Functions) (image : List ℕ) (a : Arguments) : Type 0 wh
   -- done, the demands hold of what it left, whatever the bytes were before.
   pub serves : startRefused image a ≡ 0 → (c : Config) → configOf a ≡ OptionConfig.Some c → Serves f (f .start image a .bytes) (registers a c)
 
--- The desk, whatever bytes have been taken and are: takes and readers are as the definition's follower has it.
+-- The desk, whatever bytes have been taken and are: takes and readers are as document 01's follower has it.
 pub record Follows (f : Functions) (x : List ℕ) : Type 0 where
   -- A fresh follower is lost.
   pub fresh-lost : Lost f (desk f x [])
@@ -133,9 +132,9 @@ pub record Follows (f : Functions) (x : List ℕ) : Type 0 where
   pub take : (l : List (List ℕ)) (y : List ℕ) → EachBytes l → f .take (desk f x l) y .number ≡ takeTo (readPacket y)
   pub turned-back : (l : List (List ℕ)) (y : List ℕ) (n : ℕ) → EachBytes l → readPacket y ≡ ReadPacket.Refused n → f .take (desk f x l) y .bytes ≡ desk f x l
   -- The readers tell lost, or the number, level or waiting, both figures, the consumer and the tracked ports of the follower after these takes.
-  pub shown : (l : List (List ℕ)) → EachBytes l → f .shown (desk f x l) ≡ shownAs (stateOf (after l)) (after l .shown)
-  pub consumer : (l : List (List ℕ)) → EachBytes l → f .consumer (desk f x l) ≡ consumerNumber (consumerOf (after l .shown))
-  pub tracked : (l : List (List ℕ)) → EachBytes l → f .tracked (desk f x l) ≡ trackedIn (after l .shown)
+  pub shown : (l : List (List ℕ)) → EachBytes l → f .shown (desk f x l) ≡ shownBy (paperAfter l)
+  pub consumer : (l : List (List ℕ)) → EachBytes l → f .consumer (desk f x l) ≡ consumerBy (paperAfter l)
+  pub tracked : (l : List (List ℕ)) → EachBytes l → f .tracked (desk f x l) ≡ trackedBy (paperAfter l)
   -- An image stays so many bytes.
   pub size : (l : List (List ℕ)) → EachBytes l → length (desk f x l) ≡ followerLength
   pub bytes : (l : List (List ℕ)) → EachBytes l → AllBytes (desk f x l)

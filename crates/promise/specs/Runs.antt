@@ -11,6 +11,8 @@ use Rattle.display.specs.declared.OptionAvailableConsumer.{OptionAvailableConsu
 use Rattle.event.specs.declared.memory.Registration.{Registration}
 use Rattle.wire.specs.Read.{readPacket}
 use Rattle.wire.specs.declared.packet.ReadPacket.{ReadPacket}
+use Rattle.abstract_desk.specs.Follower as paper
+use Rattle.abstract_desk.specs.State as said
 use Rattle.follower.specs.declared.State.{State}
 use Rattle.calls.specs.Numbers.{lostNumber, shownNumber, consumerNumber, trackedNumber}
 use Rattle.exported.specs.Calls.{ByteCall, writePacket, writePicture, images, Writes}
@@ -80,3 +82,22 @@ pub record Shows (f : Functions) (b : List ℕ) (n : ℕ) (d : Display) : Type 0
   pub number : f .shown b / 4294967296 ≡ n
   pub consumer : f .consumer b ≡ consumerNumber (d .consumer)
   pub tracked : f .tracked b ≡ trackedNumber (d .providers)
+
+-- what the three readers return of document 01's follower
+
+abbrev pub stateIn : said.State → State
+stateIn said.lost = State.Lost
+stateIn said.level = State.Level
+stateIn said.waiting = State.Waiting
+
+abbrev pub shownBy : paper.Follower → ℕ
+shownBy (paper.lost floor) = lostNumber
+shownBy (paper.showing n d l) = shownNumber (stateIn (paper.state (paper.showing n d l))) n d
+
+abbrev pub consumerBy : paper.Follower → ℕ
+consumerBy (paper.lost floor) = consumerNumber OptionAvailableConsumer.None
+consumerBy (paper.showing n d l) = consumerNumber (d .consumer)
+
+abbrev pub trackedBy : paper.Follower → ℕ
+trackedBy (paper.lost floor) = trackedNumber none
+trackedBy (paper.showing n d l) = trackedNumber (d .providers)
