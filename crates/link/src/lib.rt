@@ -1,1 +1,1 @@
-// Demand 3 over whole lists: specs/ has the definitions, proofs/ the theorem. No code.
+// Demand 3 over whole lists, and that the code's follower does what document 01's does: specs/ has the definitions, proofs/ the theorems. No code.
