@@ -5,11 +5,15 @@ use mathlib.Core.Bool.{Bool, true, false, cond}
 use mathlib.Core.List.{List, [], _∷_, _++_}
 use Prim.Native.Nat.{ℕ, _<_}
 use lib.Dec.{T}
+use lib.ListN.{replicate}
+use Rattle.records.specs.Row.{filled}
 use Rattle.power_policy_interface.specs.Capability.{maxPowerMw, sameOptionProvider}
-use Rattle.power_policy_interface.specs.Psu.{attachOf, updateRequestedOf, invalidState, withKind}
+use Rattle.power_policy_interface.specs.Charger.{defaultState as chargerDefault}
+use Rattle.power_policy_interface.specs.Psu.{attachOf, updateRequestedOf, invalidState, withKind, defaultState as psuDefault}
 use Rattle.power_policy_interface.specs.declared.capability.PowerCapability.{PowerCapability}
 use Rattle.power_policy_interface.specs.declared.capability.OptionConsumerPowerCapability.{OptionConsumerPowerCapability}
 use Rattle.power_policy_interface.specs.declared.capability.OptionProviderPowerCapability.{OptionProviderPowerCapability}
+use Rattle.power_policy_interface.specs.declared.capability.DisconnectFlags.{DisconnectFlags}
 use Rattle.power_policy_interface.specs.declared.capability.DisconnectReason.{DisconnectReason}
 use Rattle.power_policy_interface.specs.declared.capability.OptionDisconnectReason.{OptionDisconnectReason}
 use Rattle.power_policy_interface.specs.declared.psu.Error.{Error}
@@ -101,8 +105,9 @@ providing c = psu (PsuState.ConnectedProvider c) OptionConsumerPowerCapability.N
 abbrev ports : ℕ → Registration
 ports n = record { config = rustDefault; ports = n; chargers = 0 }
 
+-- as a call brings them: 16 places for ports and 8 for chargers, those past the registered ones filled as the reader fills them
 abbrev rows : List State → Records
-rows l = record { psus = l; chargers = [] }
+rows l = record { psus = filled 16 psuDefault l; chargers = replicate 8 chargerDefault }
 
 -- no consumer, nothing unconstrained, and the ports of these bits tracked
 abbrev tracking : ℕ → PowerState → InternalState
@@ -196,6 +201,9 @@ pub record Edges : Type 0 where
   pub P10-removed : (e : PowerState)
       → opened 5 4 EventData.Detached (tracking 15 e) (nothing ∷ nothing ∷ nothing ∷ nothing ∷ nothing ∷ [])
       ≡ done Result.Ok (record { state = tracking 15 e; notices = [] })
+  pub P10-disconnected : (e : PowerState) (f : DisconnectFlags)
+      → opened 5 4 (EventData.Disconnected f) (tracking 15 e) (nothing ∷ nothing ∷ nothing ∷ nothing ∷ nothing ∷ [])
+      ≡ done Result.Ok (record { state = tracking 15 e; notices = [] })
   -- Mistakes that look like repairs; a Limited grant is not cut to the request by P7, an earlier port wins on equal mW by P4-none.
   -- A port in ConnectedProvider is chosen as any other
   pub chosen-while-providing :
@@ -282,6 +290,7 @@ edges =
       P9 = λ c r. rw (is-true (sameOptionProvider r r) (option-provider-refl r));
       P10-connected = refl;
       P10-removed = λ e. refl;
+      P10-disconnected = λ e f. refl;
       chosen-while-providing = refl;
       unchanged-idle = refl;
       error-leaves-figures = refl;
