@@ -366,8 +366,13 @@ bit-one false false e = refl
 same-figures : (b c : Bool) (n m : ℕ) → b ≡ c → n ≡ m → _≡_ {A = UnconstrainedState} (record { unconstrained = b; available = n }) (record { unconstrained = c; available = m })
 same-figures b c n m e f = rw (e, f) refl
 
-halves : (n m : ℕ) → n % 65536 + 65536 * (n / 65536) ≡ m % 65536 + 65536 * (m / 65536) → n ≡ m
-halves n m e = omega (arith, e)
+whole : (n : ℕ) → n % 65536 + 65536 * (n / 65536) ≡ n
+whole n = omega arith
+
+number-alone : (s : State) (n : ℕ) (d : Display) → d .unconstrained .available < 256 → shownNumber s n d / 4294967296 ≡ n
+number-alone s n d h =
+    fields-4 5 (stateNumber s) (bit (d .unconstrained .unconstrained)) (d .unconstrained .available) (n % 65536) (n / 65536) (lit< tt) (state-small s) (bit-byte (d .unconstrained .unconstrained)) h
+    ∙ whole n
 
 shown-one : (s t : State) (n m : ℕ) (d e : Display) → DisplayFits d → DisplayFits e → shownNumber s n d ≡ shownNumber t m e →
     (s ≡ t) × (n ≡ m) × (d .unconstrained ≡ e .unconstrained)
@@ -376,7 +381,7 @@ shown-one s t n m d e h k q =
     let v = e .unconstrained in
     let z =
     alike {d = n % 65536} {e = n / 65536} {s = m % 65536} {t = m / 65536} (lit< tt) (state-small s) (bit-byte (u .unconstrained)) (h .available) (lit< tt) (state-small t) (bit-byte (v .unconstrained)) (k .available) q in
-    (state-one s t (z .one), halves n m (z .four), same-figures (u .unconstrained) (v .unconstrained) (u .available) (v .available) (bit-one (u .unconstrained) (v .unconstrained) (z .two)) (z .three))
+    (state-one s t (z .one), sym (whole n) ∙ (z .four ∙ whole m), same-figures (u .unconstrained) (v .unconstrained) (u .available) (v .available) (bit-one (u .unconstrained) (v .unconstrained) (z .two)) (z .three))
 
 lost-state : (s b c d e : ℕ) → s < 256 → packed 5 s b c d e ≡ packed 5 0 0 0 0 0 → s ≡ 0
 lost-state s b c d e h q = omega (arith, h, q)
@@ -466,6 +471,7 @@ one-to-one = record {
   wait = wait-carries;
   closes = close-one;
   lost = lost-one;
+  number = number-alone;
   shown = shown-one;
   consumer = consumer-one;
   tracked = tracked-one;

@@ -70,6 +70,8 @@ pub record OneToOne : Type 0 where
   pub closes : (a b : Result) (n m : ℕ) → AnswerFits a → AnswerFits b → closedNumber a n ≡ closedNumber b m → (a ≡ b) × (n ≡ m)
   -- lost is told from all that is shown
   pub lost : (s : State) (n : ℕ) (d : Display) → shownNumber s n d ≡ lostNumber → s ≡ State.Lost
+  -- the number shown stands alone in the four bytes above the figures
+  pub number : (s : State) (n : ℕ) (d : Display) → d .unconstrained .available < 256 → shownNumber s n d / 4294967296 ≡ n
   -- the three readers' numbers tell state, number, both unconstrained figures, consumer and tracked ports
   pub shown :
       (s t : State) (n m : ℕ) (d e : Display) → DisplayFits d → DisplayFits e → shownNumber s n d ≡ shownNumber t m e →

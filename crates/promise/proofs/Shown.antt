@@ -2,33 +2,19 @@
 use mathlib.Core.Path.{_≡_, refl, sym, ap, _∙_, subst}
 use mathlib.Core.Bool.{Bool, true, false, cond}
 use mathlib.Core.Logic.{_⊎_, inl, inr}
-use Prim.Native.Nat.{ℕ, _/_, _%_, _≤_, _<_}
+use Prim.Native.Nat.{ℕ, _/_, _≤_}
 use native.Mathlib.Omega.{arith}
-use Rattle.power_policy_interface.specs.Capability.{bit}
 use Rattle.display.specs.declared.Display.{Display}
 use Rattle.follower.specs.Follower.{stateAt, stateOf}
 use Rattle.follower.specs.Held.{noneHeld}
 use Rattle.follower.specs.declared.Follower.{Follower}
 use Rattle.follower.specs.declared.Shown.{Shown}
 use Rattle.follower.specs.declared.State.{State}
-use Rattle.calls.specs.Numbers.{packed, lostNumber, shownNumber, stateNumber}
+use Rattle.calls.specs.Numbers.{lostNumber, shownNumber}
 use Rattle.calls.proofs.OneToOne.{one-to-one}
 
-packed-number : (s u a n : ℕ) → s ≤ 2 → u ≤ 1 → a ≤ 16 → packed 5 s u a (n % 65536) (n / 65536) / 4294967296 ≡ n
-packed-number s u a n h i j = omega arith
-
-bit-small : (b : Bool) → bit b ≤ 1
-bit-small true = omega arith
-bit-small false = omega arith
-
-state-small : (t : State) → stateNumber t ≤ 2
-state-small State.Lost = omega arith
-state-small State.Level = omega arith
-state-small State.Waiting = omega arith
-
 pub shown-number : (t : State) (n : ℕ) (d : Display) → d .unconstrained .available ≤ 16 → shownNumber t n d / 4294967296 ≡ n
-shown-number t n d h =
-    packed-number (stateNumber t) (bit (d .unconstrained .unconstrained)) (d .unconstrained .available) n (state-small t) (bit-small (d .unconstrained .unconstrained)) h
+shown-number t n d h = one-to-one .number t n d (omega (arith, h))
 
 abbrev IsLost : State → Type 0
 IsLost State.Lost = Unit {0}
