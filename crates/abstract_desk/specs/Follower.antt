@@ -10,7 +10,7 @@ use Rattle.display.specs.declared.Display.{Display}
 use Rattle.display.specs.declared.packet.EventPacket.{EventPacket}
 use Rattle.display.specs.declared.packet.Packet.{Packet}
 use Rattle.display.specs.declared.packet.Picture.{Picture}
-use Rattle.abstract_desk.specs.State.{State}
+use Rattle.display.specs.declared.State.{State}
 
 -- lost with a floor; or showing n, with its display and the event packets that wait, in rising order of their numbers
 pub data Follower : Type 0 where
@@ -75,9 +75,9 @@ taken (showing n d held) (Packet.Picture p) = takenPicture n d held p
 
 -- lost, or else, showing n, level or waiting (something held)
 abbrev pub state : Follower → State
-state (lost floor) = State.lost
-state (showing n d []) = State.level
-state (showing n d (e ∷ l)) = State.waiting
+state (lost floor) = State.Lost
+state (showing n d []) = State.Level
+state (showing n d (e ∷ l)) = State.Waiting
 
 -- what is shown: nothing, or the number and the display
 abbrev pub shown : Follower → Option Picture

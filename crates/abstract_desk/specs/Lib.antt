@@ -1,2 +1,2 @@
-pub mod State
 pub mod Follower
+pub mod Takes

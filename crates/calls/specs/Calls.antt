@@ -4,29 +4,31 @@ use mathlib.Core.Bool.{cond}
 use mathlib.Core.List.{List}
 use lib.Dec.{eqb}
 use lib.ListN.{length}
+use Rattle.display.specs.declared.State.{State}
 use Rattle.power_policy_service.specs.declared.config.OptionConfig.{OptionConfig}
+use Rattle.abstract_policy.specs.declared.state.Records.{Records}
+use Rattle.abstract_policy.specs.declared.order.OptionOrder.{OptionOrder}
+use Rattle.abstract_policy.specs.declared.outcome.Step.{Step}
 use Rattle.event.specs.Phase.{orderOf}
-use Rattle.event.specs.declared.memory.Records.{Records}
-use Rattle.event.specs.declared.phase.OptionOrder.{OptionOrder}
 use Rattle.event.specs.declared.phase.Phase.{Phase}
 use Rattle.service.specs.Service.{answerIn, startOf, openOf, answerOf}
 use Rattle.service.specs.declared.Service.{Service}
 use Rattle.service.specs.declared.Started.{Started}
-use Rattle.service.specs.declared.Step.{Step}
 use Rattle.service.specs.declared.Stepped.{Stepped}
 use Rattle.send.specs.Send.{sendPacket, sendPicture}
 use Rattle.wire.specs.Read.{readPacket}
 use Rattle.wire.specs.declared.packet.ReadPacket.{ReadPacket}
 use Rattle.follower.specs.Follower.{fresh, taken, stateOf, consumerOf}
 use Rattle.follower.specs.declared.Follower.{Follower}
+use Rattle.follower.specs.declared.Shown.{Shown}
+use Rattle.abstract_calls.specs.Called.{Called, called, refusedCall}
+use Rattle.abstract_calls.specs.Lent.{rowsIn, packetCall, pictureCall}
+use Rattle.abstract_calls.specs.Numbers.{refusedNumber, orderNumber, closedNumber, doneNumber, consumerNumber, lostNumber, shownNumber, trackedNumber}
+use Rattle.abstract_calls.specs.declared.Rows.{Rows}
 use Rattle.service_image.specs.Image.{serviceBytes, serviceFrom}
 use Rattle.service_image.specs.declared.ReadService.{ReadService}
 use Rattle.follower_image.specs.Image.{followerBytes, followerFrom}
 use Rattle.follower_image.specs.declared.ReadFollower.{ReadFollower}
-use Rattle.calls.specs.declared.rows.Rows.{Rows}
-use Rattle.calls.specs.Called.{Called, called, refusedCall}
-use Rattle.calls.specs.Lent.{rowsIn, packetCall, pictureCall, shownAs, trackedIn}
-use Rattle.calls.specs.Numbers.{refusedNumber, orderNumber, closedNumber, doneNumber, consumerNumber}
 
 -- start: 20, then 21 for bytes of another length than an image's
 
@@ -107,6 +109,14 @@ abbrev pub takeCall : List ℕ → List ℕ → Called
 takeCall image packet = takeOn image (followerFrom image) packet
 
 -- what is shown
+
+abbrev pub shownAs : State → Shown → ℕ
+shownAs t (Shown.Lost floor) = lostNumber
+shownAs t (Shown.Picture s) = shownNumber t (s .number) (s .display)
+
+abbrev pub trackedIn : Shown → ℕ
+trackedIn (Shown.Lost floor) = trackedNumber (record { mask = 0 })
+trackedIn (Shown.Picture s) = trackedNumber (s .display .providers)
 
 abbrev pub readerCall : ReadFollower → (Follower → ℕ) → ℕ
 readerCall r f = cond (r .ok) (f (r .follower)) (refusedNumber 21)

@@ -1,16 +1,14 @@
 // The 64-bit number that a C function returns: its low byte says what happened, the other bytes what belongs to it (docs/STATE.md).
+use abstract_policy::order::Order;
+use abstract_policy::outcome::Step;
 use display::Display;
 use display::OptionAvailableConsumer;
+use display::State;
 use display::providers::Providers;
-use event::phase::Order;
-use follower::State;
 use power_policy_interface::capability::PowerCapability;
-use power_policy_interface::psu::Error;
-use power_policy_interface::psu::OptionMismatch;
 use power_policy_interface::psu::Result;
-use service::Step;
 ghost use mathlib.Core.Path.{_≡_};
-ghost use Rattle.calls.specs.Numbers.{packed, refusedNumber, bareOrder, capabilityOrder, orderNumber, expectedIn, actualIn, mismatchIn, closedNumber, stepNumber, writtenNumber, doneNumber, stateNumber, lostNumber, shownNumber, consumerNumber, trackedNumber};
+ghost use Rattle.abstract_calls.specs.Numbers.{packed, refusedNumber, bareOrder, capabilityOrder, orderNumber, closedNumber, stepNumber, writtenNumber, doneNumber, stateNumber, lostNumber, shownNumber, consumerNumber, trackedNumber};
 
 // The milliseconds of a wait.
 const WAIT_MS: u16 = 800;
@@ -74,45 +72,6 @@ pub fn order(order: Order) -> u64
     }
 }
 
-// The states that an InvalidState of a ported transition carries.
-fn mismatch(e: Error) -> OptionMismatch
-    ensures { λ r. ⌜ r ≡ mismatchIn e ⌝ }
-{
-    match e {
-        Error::InvalidDevice => OptionMismatch::None,
-        Error::CannotProvide => OptionMismatch::None,
-        Error::CannotConsume => OptionMismatch::None,
-        Error::InvalidState(m) => m,
-        Error::InvalidResponse => OptionMismatch::None,
-        Error::Busy => OptionMismatch::None,
-        Error::Timeout => OptionMismatch::None,
-        Error::Bus => OptionMismatch::None,
-        Error::Charger => OptionMismatch::None,
-        Error::Failed => OptionMismatch::None,
-    }
-}
-
-fn expected(m: OptionMismatch) -> u8
-    ensures { λ r. ⌜ r ≡ expectedIn m ⌝ }
-{
-    match m {
-        OptionMismatch::None => 0,
-        OptionMismatch::Some(s) => s.expected,
-    }
-}
-
-fn actual(m: OptionMismatch) -> u8
-    ensures { λ r. ⌜ r ≡ actualIn m ⌝ }
-{
-    match m {
-        OptionMismatch::None => 0,
-        OptionMismatch::Some(s) => {
-            let kind = s.actual;
-            kind.number()
-        }
-    }
-}
-
 // An event is closed with this answer, after so many orders.
 pub fn closed(answer: Result, orders: u8) -> u64
     ensures { λ r. ⌜ r ≡ closedNumber answer orders ⌝ }
@@ -120,8 +79,8 @@ pub fn closed(answer: Result, orders: u8) -> u64
     match answer {
         Result::Ok => pack(2, 0, 0, 0, orders as u16, 0),
         Result::Err(e) => {
-            let m = mismatch(e);
-            pack(2, e.byte(), expected(m), actual(m), orders as u16, 0)
+            let m = e.mismatch();
+            pack(2, e.byte(), m.expected(), m.actual(), orders as u16, 0)
         }
     }
 }

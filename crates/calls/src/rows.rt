@@ -1,14 +1,9 @@
 // The records of a call, read from their bytes.
-use event::memory::Records;
-use event::memory::Registration;
+use abstract_calls::Rows;
+use abstract_policy::state::Records;
+use abstract_policy::state::Registration;
 ghost use mathlib.Core.Path.{_≡_};
-ghost use Rattle.calls.specs.Lent.{rowsOf, rowsIn};
-
-// The records of all ports and chargers, and whether their bytes are those of records.
-pub struct Rows {
-    pub ok: bool,
-    pub records: Records,
-}
+ghost use Rattle.abstract_calls.specs.Lent.{rowsOf, rowsIn};
 
 fn rows_of(p: records::psu::Row, c: records::charger::Row) -> Rows
     ensures { λ r. ⌜ r ≡ rowsOf p c ⌝ }

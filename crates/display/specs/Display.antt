@@ -1,5 +1,4 @@
 -- What is held between events, and what a notice makes of it (document 01: applied, notices act in order).
-use Prim.Native.Nat.{ℕ}
 use mathlib.Core.Bool.{false}
 use Rattle.power_policy_interface.specs.declared.service.UnconstrainedState.{UnconstrainedState}
 use Rattle.power_policy_interface.specs.declared.service.event.Event.{Event}

@@ -30,6 +30,15 @@ pub struct Display {
     pub providers: Providers,
 }
 
+// What a follower says of itself.
+pub enum State {
+    Lost,
+    // Showing n with nothing held.
+    Level,
+    // Showing n with something held.
+    Waiting,
+}
+
 impl Display {
     // That of a fresh service: no consumer, nothing unconstrained, no provider.
     pub fn new() -> Self

@@ -1,10 +1,10 @@
 // The notices of one event, none to four, in their order.
+use crate::Display;
 use power_policy_interface::capability::DisconnectFlags;
 use power_policy_interface::capability::OptionDisconnectReason;
 use power_policy_interface::service::event::Event;
 ghost use mathlib.Core.Path.{_≡_};
 ghost use Rattle.display.specs.Notices.{empty, pushed, lengthOf, allApplied};
-use crate::Display;
 
 // The first `count` of the four places are meant; those past them hold a consumer disconnected at port 0 with no reason.
 pub struct Notices {

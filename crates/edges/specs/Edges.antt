@@ -1,50 +1,22 @@
--- The edges of document 01 as theorems about the definitions: of the contracts, of the event (which the service follows, crate interaction) and of
--- `follow`. The record is the table, `edges` its proof.
-use mathlib.Core.Path.{_≡_, refl, ap, sym, subst}
-use mathlib.Core.Bool.{Bool, true, false, cond}
+-- The edges of document 01 as theorems about the definitions: of the contracts, of the event (abstract_policy specs/Edges.antt; the service follows it, crate
+-- interaction) and of `follow`. The record is the table, `edges` its proof.
+use mathlib.Core.Path.{_≡_, refl}
+use mathlib.Core.Bool.{Bool, true, false}
 use mathlib.Core.List.{List, [], _∷_, _++_}
 use Prim.Native.Nat.{ℕ, _<_}
 use lib.Dec.{T}
-use lib.ListN.{replicate}
-use Rattle.records.specs.Row.{filled}
 use Rattle.power_policy_interface.specs.Capability.{maxPowerMw, sameOptionProvider}
-use Rattle.power_policy_interface.specs.Charger.{defaultState as chargerDefault}
-use Rattle.power_policy_interface.specs.Psu.{attachOf, updateRequestedOf, invalidState, withKind, defaultState as psuDefault}
-use Rattle.power_policy_interface.specs.declared.capability.PowerCapability.{PowerCapability}
+use Rattle.power_policy_interface.specs.Psu.{attachOf, updateRequestedOf, invalidState}
 use Rattle.power_policy_interface.specs.declared.capability.OptionConsumerPowerCapability.{OptionConsumerPowerCapability}
 use Rattle.power_policy_interface.specs.declared.capability.OptionProviderPowerCapability.{OptionProviderPowerCapability}
-use Rattle.power_policy_interface.specs.declared.capability.DisconnectFlags.{DisconnectFlags}
-use Rattle.power_policy_interface.specs.declared.capability.DisconnectReason.{DisconnectReason}
-use Rattle.power_policy_interface.specs.declared.capability.OptionDisconnectReason.{OptionDisconnectReason}
-use Rattle.power_policy_interface.specs.declared.psu.Error.{Error}
 use Rattle.power_policy_interface.specs.declared.psu.PsuState.{PsuState}
 use Rattle.power_policy_interface.specs.declared.psu.StateKind.{StateKind}
 use Rattle.power_policy_interface.specs.declared.psu.State.{State}
 use Rattle.power_policy_interface.specs.declared.psu.Result.{Result}
-use Rattle.power_policy_interface.specs.declared.psu.Transition.{Transition}
-use Rattle.power_policy_interface.specs.declared.capability.ConsumerPowerCapability.{ConsumerPowerCapability}
-use Rattle.power_policy_interface.specs.declared.capability.OptionPsuType.{OptionPsuType}
-use Rattle.power_policy_interface.specs.declared.capability.ProviderPowerCapability.{ProviderPowerCapability}
 use Rattle.power_policy_interface.specs.declared.charger.State as charger
-use Rattle.power_policy_interface.specs.declared.psu.event.EventData.{EventData}
-use Rattle.power_policy_interface.specs.declared.service.event.Event.{Event}
 use Rattle.power_policy_interface.proofs.Same.{option-provider-refl}
 use Rattle.display.specs.declared.OptionAvailableConsumer.{OptionAvailableConsumer}
-use Rattle.wire.specs.Number.{leb128, readNumber}
-use Rattle.wire.specs.Packet.{capability, consumer, unconstrained, consumerConnected, noticeOf, notice, eventNotices, eventAfter, event as eventPacket, pictureAfter, picture, packetOf, packet}
-use Rattle.wire.specs.Parser.{field, number}
-use Rattle.wire.specs.Read.{readPacket}
-use Rattle.wire.specs.declared.number.ReadNumber.{ReadNumber}
-use Rattle.framing.specs.Framing.{framed}
-use Rattle.follower.specs.Follower as follower
-use Rattle.follower.specs.Held.{noneHeld, greatest, above}
-use Rattle.follower.specs.declared.Follower.{Follower}
-use Rattle.follower.specs.declared.OptionNumber.{OptionNumber}
-use Rattle.follower.specs.declared.State as shown
-use Rattle.report.specs.Text.{decimal, header}
-use Rattle.report.specs.Line.{lineOf, lineBytes, refusedBytes}
-use Rattle.report.specs.Desk.{afterRead, takenBy, lineFor, follow}
-use Rattle.report.specs.declared.line.Line.{Line}
+use Rattle.display.specs.declared.State as shown
 use Rattle.power_policy_service.specs.Config.{rustDefault}
 use Rattle.power_policy_service.specs.Consumer.{eligible, available, bestOf}
 use Rattle.power_policy_service.specs.Provider.{powerStateOf}
@@ -52,76 +24,25 @@ use Rattle.power_policy_service.specs.Rows.{psuAt}
 use Rattle.power_policy_service.specs.declared.config.OptionMilliwatts.{OptionMilliwatts}
 use Rattle.power_policy_service.specs.declared.provider.PowerState.{PowerState}
 use Rattle.power_policy_service.proofs.Choice.{only-chosen}
-use Rattle.event.specs.Memory.{freshState, stateWith}
-use Rattle.event.specs.declared.memory.InternalState.{InternalState}
-use Rattle.event.specs.declared.memory.Records.{Records}
-use Rattle.event.specs.declared.memory.Registration.{Registration}
-use Rattle.event.specs.declared.phase.Order.{Order}
-use Rattle.service.specs.declared.Step.{Step}
-use Rattle.interaction.specs.Action.{Interaction, done}
-use Rattle.interaction.specs.Interaction.{updateUnconstrainedState, connectNewConsumer, disconnectCurrent, disconnectChargers, connectConsumer, connectBest, updateCurrentConsumer, postProviderConnected, provide, connectProvider, removeProvider, postProviderRemoved, processPsuEvent, event}
-use Rattle.interaction.specs.Served.{fedBy, brings}
+use Rattle.abstract_policy.specs.Edges.{psu, offer, contract, nothing, offering, EventEdges}
+use Rattle.abstract_policy.proofs.Edges.{event-edges}
+use Rattle.wire.specs.Number.{leb128, readNumber}
+use Rattle.wire.specs.Packet.{capability, consumer, unconstrained, consumerConnected, noticeOf, notice, eventNotices, eventAfter, event as eventPacket, pictureAfter, picture, packetOf, packet}
+use Rattle.wire.specs.Parser.{field, number}
+use Rattle.wire.specs.Read.{readPacket}
+use Rattle.wire.specs.declared.number.ReadNumber.{ReadNumber}
+use Rattle.follower.specs.Follower as follower
+use Rattle.follower.specs.Held.{noneHeld, greatest, above}
+use Rattle.follower.specs.declared.Follower.{Follower}
+use Rattle.follower.specs.declared.OptionNumber.{OptionNumber}
+use Rattle.framing.specs.Framing.{framed}
+use Rattle.report.specs.Text.{decimal, header}
+use Rattle.report.specs.Line.{lineOf, lineBytes, refusedBytes}
+use Rattle.report.specs.Desk.{afterRead, takenBy, lineFor, follow}
+use Rattle.report.specs.declared.line.Line.{Line}
 
 abbrev mW : ℕ → ℕ → ℕ
 mW v a = maxPowerMw (record { «voltage_mv» = v; «current_ma» = a })
-
-abbrev psu : PsuState → OptionConsumerPowerCapability → OptionProviderPowerCapability → State
-psu p c r = record { «psu_state» = p; «consumer_capability» = c; «requested_provider_capability» = r }
-
--- offers, requests and contracts without flags
-
-abbrev offer : ℕ → ℕ → ConsumerPowerCapability
-offer v a =
-    record {
-      capability = record { «voltage_mv» = v; «current_ma» = a };
-      flags = record { «unconstrained_power» = false; «psu_type» = OptionPsuType.None };
-    }
-
--- an offer that is unconstrained
-abbrev unlimited : ℕ → ℕ → ConsumerPowerCapability
-unlimited v a =
-    record {
-      capability = record { «voltage_mv» = v; «current_ma» = a };
-      flags = record { «unconstrained_power» = true; «psu_type» = OptionPsuType.None };
-    }
-
-abbrev contract : ℕ → ℕ → ProviderPowerCapability
-contract v a =
-    record { capability = record { «voltage_mv» = v; «current_ma» = a }; flags = record { «psu_type» = OptionPsuType.None } }
-
-abbrev nothing : State
-nothing = psu PsuState.Idle OptionConsumerPowerCapability.None OptionProviderPowerCapability.None
-
-abbrev offering : ConsumerPowerCapability → State
-offering c = psu PsuState.Idle (OptionConsumerPowerCapability.Some c) OptionProviderPowerCapability.None
-
-abbrev requesting : ProviderPowerCapability → State
-requesting c = psu PsuState.Idle OptionConsumerPowerCapability.None (OptionProviderPowerCapability.Some c)
-
-abbrev providing : ProviderPowerCapability → State
-providing c = psu (PsuState.ConnectedProvider c) OptionConsumerPowerCapability.None OptionProviderPowerCapability.None
-
--- the Rust's default configuration, so many ports and no charger
-abbrev ports : ℕ → Registration
-ports n = record { config = rustDefault; ports = n; chargers = 0 }
-
--- as a call brings them: 16 places for ports and 8 for chargers, those past the registered ones filled as the reader fills them
-abbrev rows : List State → Records
-rows l = record { psus = filled 16 psuDefault l; chargers = replicate 8 chargerDefault }
-
--- no consumer, nothing unconstrained, and the ports of these bits tracked
-abbrev tracking : ℕ → PowerState → InternalState
-tracking mask s =
-    stateWith OptionAvailableConsumer.None s (record { unconstrained = false; available = 0 }) (record { mask = mask })
-
--- port 0 is the consumer with this capability, and the figures are these
-abbrev consuming : ConsumerPowerCapability → Bool → ℕ → InternalState
-consuming c u n =
-    stateWith (available 0 c) PowerState.Unlimited (record { unconstrained = u; available = n }) (record { mask = 0 })
-
--- the event of this port, opened with these records
-abbrev opened : ℕ → ℕ → EventData → InternalState → List State → Interaction
-opened n p e s l = event (ports n) p e s (rows l)
 
 -- the packets of document 01's example
 
@@ -181,51 +102,21 @@ pub record Edges : Type 0 where
   -- P5: total 15,000 Unlimited, 15,001 Limited
   pub P5-unlimited : powerStateOf rustDefault 15000 ≡ PowerState.Unlimited
   pub P5-limited : powerStateOf rustDefault 15001 ≡ PowerState.Limited
-  -- P6: a lone request 15,000 mV, 1,000 mA is granted 5,000 mV, 3,000 mA
-  pub P6 : brings 0 (opened 1 0 EventData.RequestedProviderCapability freshState (requesting (contract 15000 1000) ∷ []))
-      ≡ Step.Order (Order.ConnectProvider 0 (contract 5000 3000))
-  -- P7: request 5,000 mV, 500 mA beside a contract of 15,000 mW: granted 5,000 mV, 1,500 mA
-  pub P7 : brings 0 (opened 2 0 EventData.RequestedProviderCapability freshState (requesting (contract 5000 500) ∷ providing (contract 5000 3000) ∷ []))
-      ≡ Step.Order (Order.ConnectProvider 0 (contract 5000 1500))
+  -- P6, P7, P10 and three more: what an event does
+  pub events : EventEdges
   -- P8: attach in Idle is InvalidState (expected {Detached}, bit 1; actual Idle), and the record stays Idle
   pub P8 : (c : OptionConsumerPowerCapability) (r : OptionProviderPowerCapability)
       → attachOf (psu PsuState.Idle c r) ≡ record { result = Result.Err (invalidState 1 StateKind.Idle); state = psu PsuState.Idle c r }
   -- P9: an equal request on a Detached record is no error
   pub P9 : (c : OptionConsumerPowerCapability) (r : OptionProviderPowerCapability)
       → updateRequestedOf (psu PsuState.Detached c r) r ≡ record { result = Result.Ok; state = psu PsuState.Detached c r }
-  -- P10: fifth provider (0 to 3 are tracked): notice, not tracked, no notice on removal
-  pub P10-connected :
-      fedBy (opened 5 4 EventData.RequestedProviderCapability (tracking 15 PowerState.Unlimited) (nothing ∷ nothing ∷ nothing ∷ nothing ∷ requesting (contract 5000 500) ∷ []))
-      ((0, rows []) ∷ [])
-      ≡ done Result.Ok (record { state = tracking 15 PowerState.Unlimited; notices = Event.ProviderConnected 4 (contract 5000 500) ∷ [] })
-  pub P10-removed : (e : PowerState)
-      → opened 5 4 EventData.Detached (tracking 15 e) (nothing ∷ nothing ∷ nothing ∷ nothing ∷ nothing ∷ [])
-      ≡ done Result.Ok (record { state = tracking 15 e; notices = [] })
-  pub P10-disconnected : (e : PowerState) (f : DisconnectFlags)
-      → opened 5 4 (EventData.Disconnected f) (tracking 15 e) (nothing ∷ nothing ∷ nothing ∷ nothing ∷ nothing ∷ [])
-      ≡ done Result.Ok (record { state = tracking 15 e; notices = [] })
-  -- Mistakes that look like repairs; a Limited grant is not cut to the request by P7, an earlier port wins on equal mW by P4-none.
-  -- A port in ConnectedProvider is chosen as any other
+  -- Mistakes that look like repairs: a Limited grant is not cut to the request by P7, an earlier port wins on equal mW by P4-none, and
+  -- a port in ConnectedProvider is chosen as any other
   pub chosen-while-providing :
       bestOf OptionMilliwatts.None OptionAvailableConsumer.None
       (offering (offer 5000 1500) ∷ psu (PsuState.ConnectedProvider (contract 5000 1500)) (OptionConsumerPowerCapability.Some (offer 5000 3000)) OptionProviderPowerCapability.None ∷ [])
       2
       ≡ available 1 (offer 5000 3000)
-  -- An unchanged consumer that went Idle is not connected again: no order, no notice
-  pub unchanged-idle :
-      opened 1 0 EventData.UpdatedConsumerCapability (consuming (offer 5000 3000) false 0) (offering (offer 5000 3000) ∷ [])
-      ≡ done Result.Ok (record { state = consuming (offer 5000 3000) false 0; notices = [] })
-  -- After an error the unconstrained figures stay as they were, and there is no notice of them: port 0 cannot be connected anew (answer 7), and offers
-  -- unconstrained power no more
-  pub error-leaves-figures :
-      fedBy (opened 1 0 EventData.UpdatedConsumerCapability (consuming (unlimited 5000 3000) true 1) (offering (offer 5000 1500) ∷ []))
-      ((7, rows []) ∷ [])
-      ≡ done (Result.Err Error.Timeout)
-      (record {
-        state = stateWith OptionAvailableConsumer.None PowerState.Unlimited (record { unconstrained = true; available = 1 }) (record { mask = 0 });
-        notices =
-            Event.ConsumerDisconnected 0 (record { reason = OptionDisconnectReason.Some DisconnectReason.AutoRenegotiation }) ∷ [];
-      })
   -- P11: 128 is 80 01, 300 is AC 02, 80 00 is refused 31, whatever the limit and the rest
   pub P11-128 : leb128 128 ≡ 0x80 ∷ 0x01 ∷ []
   pub P11-300 : leb128 300 ≡ 0xAC ∷ 0x02 ∷ []
@@ -271,7 +162,6 @@ unfolding follow framed takenBy lineFor lineBytes refusedBytes decimal lineOf re
 p12-written = refl
 
 pub edges : Edges
-unfolding processPsuEvent connectProvider provide postProviderConnected postProviderRemoved removeProvider updateCurrentConsumer connectBest connectNewConsumer disconnectCurrent disconnectChargers connectConsumer updateUnconstrainedState
 edges =
     record {
       P1-type-c = refl;
@@ -284,16 +174,10 @@ edges =
       P4-none = refl;
       P5-unlimited = refl;
       P5-limited = refl;
-      P6 = refl;
-      P7 = refl;
+      events = event-edges;
       P8 = λ c r. refl;
       P9 = λ c r. rw (is-true (sameOptionProvider r r) (option-provider-refl r));
-      P10-connected = refl;
-      P10-removed = λ e. refl;
-      P10-disconnected = λ e f. refl;
       chosen-while-providing = refl;
-      unchanged-idle = refl;
-      error-leaves-figures = refl;
       P11-128 = p11-128;
       P11-300 = p11-300;
       P11-refused = p11-refused;

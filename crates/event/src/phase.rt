@@ -1,32 +1,13 @@
 // Where an event stands: closed with its answer, or at an order with what is left of it as data.
 use crate::memory::Memory;
+use abstract_policy::order::OptionOrder;
+use abstract_policy::order::Order;
 use display::AvailableConsumer;
-use power_policy_interface::capability::ConsumerPowerCapability;
 use power_policy_interface::capability::DisconnectFlags;
 use power_policy_interface::capability::ProviderPowerCapability;
 use power_policy_interface::psu;
 ghost use mathlib.Core.Path.{_≡_};
 ghost use Rattle.event.specs.Phase.{orderOf, switchOrder, connectOrder, outcomeOf};
-
-// A device order. The number is the port's or the charger's.
-pub enum Order {
-    // Disconnect a PSU.
-    Disconnect(u8),
-    // Connect a PSU as consumer.
-    ConnectConsumer(u8, ConsumerPowerCapability),
-    // Connect a PSU as provider.
-    ConnectProvider(u8, ProviderPowerCapability),
-    // Is the charger ready?
-    IsReady(u8),
-    // Initialize the charger.
-    InitCharger(u8),
-    // The charger's attach handler.
-    Attach(u8, ConsumerPowerCapability),
-    // The charger's detach handler.
-    Detach(u8),
-    // Wait 800 ms.
-    Wait,
-}
 
 // What is being disconnected from the old consumer: its PSU, or a charger.
 pub enum Leaver {
@@ -62,30 +43,22 @@ pub enum Phase {
     Providing(u8, ProviderPowerCapability),
 }
 
-// The open order of a phase, if it has one.
-pub enum OptionOrder {
-    None,
-    Some(Order),
-}
-
-impl Order {
-    // What an answer to the order comes to: a charger's error is Charger, and a wait does not fail.
-    pub fn outcome(self, answer: psu::Result) -> psu::Result
-        ensures { λ r. ⌜ r ≡ outcomeOf self answer ⌝ }
-    {
-        match answer {
-            psu::Result::Ok => psu::Result::Ok,
-            psu::Result::Err(e) => match self {
-                Order::Disconnect(_) => psu::Result::Err(e),
-                Order::ConnectConsumer(_, _) => psu::Result::Err(e),
-                Order::ConnectProvider(_, _) => psu::Result::Err(e),
-                Order::IsReady(_) => psu::Result::Err(psu::Error::Charger),
-                Order::InitCharger(_) => psu::Result::Err(psu::Error::Charger),
-                Order::Attach(_, _) => psu::Result::Err(psu::Error::Charger),
-                Order::Detach(_) => psu::Result::Err(psu::Error::Charger),
-                Order::Wait => psu::Result::Ok,
-            },
-        }
+// What an answer to the order comes to: a charger's error is Charger, and a wait does not fail.
+pub fn outcome(order: Order, answer: psu::Result) -> psu::Result
+    ensures { λ r. ⌜ r ≡ outcomeOf order answer ⌝ }
+{
+    match answer {
+        psu::Result::Ok => psu::Result::Ok,
+        psu::Result::Err(e) => match order {
+            Order::Disconnect(_) => psu::Result::Err(e),
+            Order::ConnectConsumer(_, _) => psu::Result::Err(e),
+            Order::ConnectProvider(_, _) => psu::Result::Err(e),
+            Order::IsReady(_) => psu::Result::Err(psu::Error::Charger),
+            Order::InitCharger(_) => psu::Result::Err(psu::Error::Charger),
+            Order::Attach(_, _) => psu::Result::Err(psu::Error::Charger),
+            Order::Detach(_) => psu::Result::Err(psu::Error::Charger),
+            Order::Wait => psu::Result::Ok,
+        },
     }
 }
 

@@ -1,3 +1,1 @@
-pub mod Functions
-pub mod Calls
 pub mod Ours

@@ -1,11 +1,9 @@
 -- Ours, by the definitions of the calls (crates/calls). The contracts of the exported functions cite this record (crates/power_policy/src/lib.rt): what
 -- the code does and what is claimed are tied there.
-use Prim.Native.Nat.{ℕ}
-use mathlib.Core.List.{List}
+use Rattle.abstract_calls.specs.Functions.{Functions, configOf}
 use Rattle.service_image.specs.Image.{serviceFrom}
 use Rattle.follower_image.specs.Image.{followerFrom}
 use Rattle.calls.specs.Calls.{startCall, openCall, answerCall, orderCall, writePacketCall, writePictureCall, followerStartCall, takeCall, shownCall, consumerCall, trackedCall}
-use Rattle.exported.specs.Functions.{Functions, configOf}
 
 abbrev pub functions : Functions
 functions = record {

@@ -10,15 +10,16 @@ use lib.Dec.{eqb, leb, ltb}
 use lib.ListN.{length, replicate, take}
 use lib.Seq.{ext-getD}
 use borrow.Author.Tests.{eqb-true, leb-true, eq-eqb, le-leb, ltb-true, ltb-false}
-use Rattle.display.proofs.Four.{one-value}
+use Rattle.power_policy_interface.specs.Limits.{largest}
 use Rattle.display.specs.Notices.{places, empty, padded}
 use Rattle.display.specs.declared.notices.Notices.{Notices}
 use Rattle.display.specs.declared.packet.EventPacket.{EventPacket}
+use Rattle.display.proofs.Four.{one-value}
+use Rattle.follower.specs.Held.{none, nothing, packetAt}
+use Rattle.follower.specs.WellFormed.{InPlace, WellFormedAt, WellFormed, noNotices, isNone, inPlace, allPlaces, wellFormedAt, wellFormed}
 use Rattle.follower.specs.declared.Follower.{Follower}
 use Rattle.follower.specs.declared.Shown.{Shown}
 use Rattle.follower.specs.declared.held.Held.{Held}
-use Rattle.follower.specs.Held.{none, nothing, packetAt}
-use Rattle.follower.specs.WellFormed.{largest, InPlace, WellFormedAt, WellFormed, noNotices, isNone, inPlace, allPlaces, wellFormedAt, wellFormed}
 use Rattle.follower.proofs.Kept.{none-at}
 
 both : (a b : Bool) → (a && b) ≡ true → (a ≡ true) × (b ≡ true)

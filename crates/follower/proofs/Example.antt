@@ -10,11 +10,11 @@ use Rattle.display.specs.Display.{fresh}
 use Rattle.display.specs.Notices.{empty, pushed}
 use Rattle.display.specs.declared.packet.Packet.{Packet}
 use Rattle.display.specs.declared.packet.Picture.{Picture}
+use Rattle.display.specs.declared.State.{State}
 use Rattle.follower.specs.Follower as follower
 use Rattle.follower.specs.Held.{noneHeld, greatest, above}
 use Rattle.follower.specs.declared.Follower.{Follower}
 use Rattle.follower.specs.declared.OptionNumber.{OptionNumber}
-use Rattle.follower.specs.declared.State.{State}
 
 -- 02 00 00 00 00 00: the picture of a fresh service
 abbrev picture0 : Packet

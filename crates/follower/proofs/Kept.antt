@@ -10,17 +10,18 @@ use lib.Dec.{eqb, leb, ltb, lit<}
 use lib.ListN.{length, getD, set, replicate, length-set}
 use lib.Seq.{getD-set-same, getD-set-other}
 use borrow.Author.Tests.{eqb-true, eqb-false, leb-false, ltb-false}
+use Rattle.power_policy_interface.specs.Limits.{largest}
 use Rattle.display.specs.Notices.{allApplied, padded}
 use Rattle.display.specs.declared.Display.{Display}
 use Rattle.display.specs.declared.packet.EventPacket.{EventPacket}
 use Rattle.display.specs.declared.packet.Packet.{Packet}
 use Rattle.display.specs.declared.packet.Picture.{Picture}
+use Rattle.follower.specs.Held.{none, nothing, packetAt, heldFor, holds, put, placed, dropped, greatest, above}
+use Rattle.follower.specs.Follower.{lost, showing, at, fresh, inTurn, settled, takenAt, taken}
+use Rattle.follower.specs.WellFormed.{InPlace, Within, WellFormedAt, WellFormed, Readable}
 use Rattle.follower.specs.declared.Follower.{Follower}
 use Rattle.follower.specs.declared.Shown.{Shown}
 use Rattle.follower.specs.declared.held.Held.{Held}
-use Rattle.follower.specs.Held.{none, nothing, packetAt, heldFor, holds, put, placed, dropped, greatest, above}
-use Rattle.follower.specs.Follower.{lost, showing, at, fresh, inTurn, settled, takenAt, taken}
-use Rattle.follower.specs.WellFormed.{largest, InPlace, Within, WellFormedAt, WellFormed, Readable}
 use Rattle.follower.proofs.Laws.{greatest-le}
 
 pub mod8 : (m : ℕ) → m % 8 < 8

@@ -9,13 +9,13 @@ use Rattle.display.specs.declared.OptionAvailableConsumer.{OptionAvailableConsu
 use Rattle.display.specs.declared.packet.EventPacket.{EventPacket}
 use Rattle.display.specs.declared.packet.Packet.{Packet}
 use Rattle.display.specs.declared.packet.Picture.{Picture}
+use Rattle.display.specs.declared.State.{State}
+use Rattle.follower.specs.Held.{nothing, heldFor, holds, placed, dropped, noneHeld, greatest, above}
 use Rattle.follower.specs.declared.Follower.{Follower}
 use Rattle.follower.specs.declared.OptionDisplay.{OptionDisplay}
 use Rattle.follower.specs.declared.OptionNumber.{OptionNumber}
 use Rattle.follower.specs.declared.Shown.{Shown}
-use Rattle.follower.specs.declared.State.{State}
 use Rattle.follower.specs.declared.held.Held.{Held}
-use Rattle.follower.specs.Held.{nothing, heldFor, holds, placed, dropped, noneHeld, greatest, above}
 
 -- lost, held packets are dropped
 abbrev pub lost : ℕ → Follower
@@ -89,9 +89,9 @@ abbrev pub numberOf : Shown → OptionNumber
 numberOf (Shown.Lost floor) = OptionNumber.None
 numberOf (Shown.Picture s) = OptionNumber.Some (s .number)
 
-abbrev pub displayOf : Shown → OptionDisplay
-displayOf (Shown.Lost floor) = OptionDisplay.None
-displayOf (Shown.Picture s) = OptionDisplay.Some (s .display)
+abbrev pub shownDisplay : Shown → OptionDisplay
+shownDisplay (Shown.Lost floor) = OptionDisplay.None
+shownDisplay (Shown.Picture s) = OptionDisplay.Some (s .display)
 
 abbrev pub consumerOf : Shown → OptionAvailableConsumer
 consumerOf (Shown.Lost floor) = OptionAvailableConsumer.None

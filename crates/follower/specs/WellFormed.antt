@@ -5,6 +5,7 @@ use mathlib.Core.Path.{_≡_}
 use mathlib.Core.Logic.{_⊎_}
 use lib.Dec.{eqb, leb}
 use lib.ListN.{length}
+use Rattle.power_policy_interface.specs.Limits.{largest}
 use Rattle.display.specs.Notices.{padded}
 use Rattle.display.specs.declared.notices.Notices.{Notices}
 use Rattle.display.specs.declared.packet.EventPacket.{EventPacket}
@@ -15,9 +16,6 @@ use Rattle.follower.specs.declared.held.Held.{Held}
 use Rattle.follower.specs.Held.{none, nothing, packetAt}
 
 -- a number of 32 bits
-abbrev pub largest : ℕ
-largest = 4294967295
-
 -- place i holds no packet, or that of an event from lo to hi whose place it is, its notices in their one form
 abbrev pub InPlace : ℕ → ℕ → ℕ → EventPacket → Type 0
 InPlace lo hi i p =

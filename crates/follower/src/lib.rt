@@ -6,12 +6,13 @@ use crate::held::greater;
 use crate::held::no_packet;
 use display::Display;
 use display::OptionAvailableConsumer;
+use display::State;
 use display::packet::EventPacket;
 use display::packet::Packet;
 use display::packet::Picture;
 ghost use mathlib.Core.Path.{_≡_};
 ghost use Rattle.display.specs.Notices.{allApplied};
-ghost use Rattle.follower.specs.Follower.{lost, showing, fresh, inTurn, settled, takenEvent, takenPicture, takenAt, taken, stateOf, numberOf, displayOf, consumerOf, portOf, mwOf};
+ghost use Rattle.follower.specs.Follower.{lost, showing, fresh, inTurn, settled, takenEvent, takenPicture, takenAt, taken, stateOf, numberOf, shownDisplay, consumerOf, portOf, mwOf};
 
 // Lost with a floor, or showing what is held at an event.
 pub enum Shown {
@@ -23,14 +24,6 @@ pub enum Shown {
 pub struct Follower {
     pub shown: Shown,
     pub held: Held,
-}
-
-pub enum State {
-    Lost,
-    // Showing n with nothing held.
-    Level,
-    // Showing n with something held.
-    Waiting,
 }
 
 // Option<u32>.
@@ -240,7 +233,7 @@ impl Shown {
 
     // Consumer, unconstrained figures and tracked providers.
     pub fn display(self) -> OptionDisplay
-        ensures { λ r. ⌜ r ≡ displayOf self ⌝ }
+        ensures { λ r. ⌜ r ≡ shownDisplay self ⌝ }
     {
         match self {
             Shown::Lost(_) => OptionDisplay::None,

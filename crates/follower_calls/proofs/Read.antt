@@ -15,14 +15,14 @@ use Rattle.wire.specs.declared.packet.ReadPacket.{ReadPacket}
 use Rattle.follower.specs.Follower.{lost, showing, taken}
 use Rattle.follower.specs.declared.Follower.{Follower}
 use Rattle.follower.specs.declared.held.Held.{Held}
+use Rattle.abstract_calls.specs.Called.{Called, refusedCall}
+use Rattle.abstract_calls.specs.Numbers.{refusedNumber, doneNumber}
 use Rattle.follower_image.specs.Image.{followerBytes, followerCases, followerIn, followerRead, followerFrom, shownRead, ImageOf, ShownBy}
 use Rattle.follower_image.specs.declared.ReadFollower.{ReadFollower}
 use Rattle.follower_image.specs.declared.ReadShown.{ReadShown}
 use Rattle.follower_in_place.specs.Taken.{takenImage}
 use Rattle.follower_in_place.proofs.Images.{read-lost, read-showing, read-refused}
-use Rattle.calls.specs.Called.{Called, refusedCall}
 use Rattle.calls.specs.Calls.{putFollower, takenCall, takeOn, takeCall, readerCall}
-use Rattle.calls.specs.Numbers.{refusedNumber, doneNumber}
 
 -- an image
 

@@ -7,9 +7,9 @@ use follower_image::ReadShown;
 use follower_image::read_shown;
 use wire::packet::ReadPacket;
 ghost use mathlib.Core.Path.{_≡_};
+ghost use Rattle.abstract_calls.specs.Numbers.{refusedNumber, doneNumber};
 ghost use Rattle.follower_image.specs.Image.{followerFrom};
 ghost use Rattle.follower_in_place.specs.Taken.{takenImage};
-ghost use Rattle.calls.specs.Numbers.{refusedNumber, doneNumber};
 ghost use Rattle.calls.specs.Calls.{followerStartCall, takeCall, readerCall, shownCall, consumerCall, trackedCall};
 
 // A fresh follower, lost with floor 0; 21 for bytes of another length than an image's.

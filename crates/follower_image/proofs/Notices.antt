@@ -8,8 +8,7 @@ use native.Mathlib.Omega.{arith}
 use lib.Dec.{eqb, leb, ltb}
 use lib.ListN.{length, getD}
 use borrow.Author.Tests.{eqb-true, leb-true, le-leb}
-use Rattle.power_policy_interface.proofs.OneByte.{reason-read-write, reason-write-read}
-use Rattle.power_policy_interface.specs.Capability.{bit, disconnectByte, disconnectFrom, reasonByte}
+use Rattle.power_policy_interface.specs.Capability.{bit, disconnectByte, disconnectFrom, reasonByte, capabilityFits}
 use Rattle.power_policy_interface.specs.declared.capability.DisconnectReason.{DisconnectReason}
 use Rattle.power_policy_interface.specs.declared.capability.OptionDisconnectReason.{OptionDisconnectReason}
 use Rattle.power_policy_interface.specs.declared.capability.OptionDisconnectFlags.{OptionDisconnectFlags}
@@ -17,13 +16,14 @@ use Rattle.power_policy_interface.specs.declared.capability.OptionConsumerPower
 use Rattle.power_policy_interface.specs.declared.capability.OptionProviderPowerCapability.{OptionProviderPowerCapability}
 use Rattle.power_policy_interface.specs.declared.capability.PowerCapability.{PowerCapability}
 use Rattle.power_policy_interface.specs.declared.service.event.Event.{Event}
+use Rattle.power_policy_interface.proofs.OneByte.{reason-read-write, reason-write-read}
 use Rattle.records.specs.Group.{emptyGroup, allZero, consumerFrom, providerFrom}
 use Rattle.records.specs.declared.group.Group.{Group}
 use Rattle.records.proofs.Groups.{zeros, consumer-back, provider-back, consumer-written, provider-written}
 use Rattle.display.specs.Notices.{filler, listed, padded}
 use Rattle.display.specs.declared.notices.Notices.{Notices}
 use Rattle.display.proofs.Four.{rebuilt, padded-rebuilt, at-most-four}
-use Rattle.wire.specs.WellFormed.{capabilityFits, noticeFits, noticesFit}
+use Rattle.wire.specs.WellFormed.{noticeFits, noticesFit}
 use Rattle.image.specs.Tagged.{noGroup}
 use Rattle.image.specs.declared.tagged.Tagged.{Tagged}
 use Rattle.image.proofs.Quads.{Within}

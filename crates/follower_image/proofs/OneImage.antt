@@ -12,17 +12,19 @@ use lib.Dec.{eqb, leb, ltb}
 use lib.ListN.{length, getD, drop, replicate, length-drop}
 use lib.Seq.{drop-cons}
 use borrow.Author.Tests.{eqb-true, eqb-false, eq-eqb, leb-true, le-leb, lt-ltb, ltb-true, ltb-false}
+use Rattle.power_policy_interface.specs.Limits.{largest}
+use Rattle.power_policy_interface.specs.Capability.{capabilityFits}
 use Rattle.records.specs.Row.{AllBytes, written}
 use Rattle.display.specs.Providers.{len}
 use Rattle.display.specs.declared.Display.{Display}
 use Rattle.display.specs.declared.OptionAvailableConsumer.{OptionAvailableConsumer}
 use Rattle.display.specs.declared.packet.EventPacket.{EventPacket}
 use Rattle.display.specs.declared.packet.Picture.{Picture}
-use Rattle.wire.specs.WellFormed.{capabilityFits, consumerFits, eventFits, pictureFits}
+use Rattle.wire.specs.WellFormed.{consumerFits, eventFits, pictureFits}
 use Rattle.follower.specs.Held as held
 use Rattle.follower.specs.Held.{nothing, packetAt, heldFor}
 use Rattle.follower.specs.Follower.{lost, showing, at, fresh}
-use Rattle.follower.specs.WellFormed.{largest, InPlace, Within, WellFormed, isNone, allPlaces, wellFormed}
+use Rattle.follower.specs.WellFormed.{InPlace, Within, WellFormed, isNone, allPlaces, wellFormed}
 use Rattle.follower.specs.declared.Follower.{Follower}
 use Rattle.follower.specs.declared.Shown.{Shown}
 use Rattle.follower.specs.declared.held.Held.{Held}

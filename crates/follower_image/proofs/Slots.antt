@@ -9,16 +9,16 @@ use native.Mathlib.Omega.{arith}
 use lib.Dec.{eqb, leb, ltb}
 use lib.ListN.{length, getD, replicate}
 use borrow.Author.Tests.{eqb-true, leb-true, ltb-true, lt-ltb, ne-eqb}
+use Rattle.power_policy_interface.specs.Limits.{largest}
+use Rattle.power_policy_interface.specs.declared.service.event.Event.{Event}
 use Rattle.records.specs.Group.{emptyGroup}
 use Rattle.records.specs.Row.{AllBytes}
 use Rattle.display.specs.Notices.{listed, padded}
 use Rattle.display.specs.declared.notices.Notices.{Notices}
 use Rattle.display.specs.declared.packet.EventPacket.{EventPacket}
 use Rattle.display.proofs.Four.{padded-rebuilt, rebuilt, at-most-four}
-use Rattle.power_policy_interface.specs.declared.service.event.Event.{Event}
 use Rattle.wire.specs.WellFormed.{noticeFits, noticesFit, eventFits}
 use Rattle.follower.specs.Held.{none}
-use Rattle.follower.specs.WellFormed.{largest}
 use Rattle.image.specs.Tagged.{taggedAt, taggedBytes}
 use Rattle.image.specs.declared.tagged.Tagged.{Tagged}
 use Rattle.image.proofs.Places as places

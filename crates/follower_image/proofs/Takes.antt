@@ -11,6 +11,7 @@ use lib.Dec.{eqb, leb, ltb}
 use lib.ListN.{length, length-set}
 use lib.Seq.{getD-set-same, getD-set-other}
 use borrow.Author.Tests.{eqb-true, eqb-false, leb-true, le-leb}
+use Rattle.power_policy_interface.specs.Limits.{largest}
 use Rattle.power_policy_interface.specs.declared.service.event.Event.{Event}
 use Rattle.records.specs.Row.{AllBytes}
 use Rattle.display.specs.Display.{appliedTo}
@@ -19,6 +20,7 @@ use Rattle.display.specs.declared.Display.{Display}
 use Rattle.display.specs.declared.packet.EventPacket.{EventPacket}
 use Rattle.display.specs.declared.packet.Packet.{Packet}
 use Rattle.display.specs.declared.packet.Picture.{Picture}
+use Rattle.display.proofs.Tracked.{Tracks, insert-tracks, remove-tracks}
 use Rattle.wire.specs.Read.{readPacket}
 use Rattle.wire.specs.WellFormed.{consumerFits, noticeFits, noticesFit, eventFits, pictureFits}
 use Rattle.wire.specs.WellFormed as wire
@@ -27,7 +29,7 @@ use Rattle.wire.proofs.OnePacket.{write-read}
 use Rattle.follower.specs.Held as held
 use Rattle.follower.specs.Held.{nothing, packetAt, heldFor, holds, put, placed, dropped, greatest, above}
 use Rattle.follower.specs.Follower.{lost, showing, at, inTurn, settled, takenAt, taken}
-use Rattle.follower.specs.WellFormed.{largest, WellFormedAt, Readable}
+use Rattle.follower.specs.WellFormed.{WellFormedAt, Readable}
 use Rattle.follower.specs.declared.Follower.{Follower}
 use Rattle.follower.specs.declared.Shown.{Shown}
 use Rattle.follower.specs.declared.held.Held.{Held}
@@ -36,7 +38,6 @@ use Rattle.follower_image.specs.Fits.{imageFits}
 use Rattle.follower_image.proofs.Notices.{and-left, and-right}
 use Rattle.follower_image.proofs.Slots.{parts}
 use Rattle.follower_image.proofs.OneImage.{Fit, fit-tested, tested-fit, Fits, fits, fitted, picture-parts, picture-whole}
-use Rattle.display.proofs.Tracked.{Tracks, insert-tracks, remove-tracks}
 
 -- a display within what a picture has
 record Shows (d : Display) : Type 0 where

@@ -5,11 +5,11 @@ use mathlib.Core.Bool.{Bool, true, false, cond, _&&_}
 use mathlib.Core.List.{List, [], _∷_, _++_}
 use lib.Dec.{eqb, leb}
 use lib.ListN.{getD, replicate}
+use Rattle.power_policy_interface.specs.Limits.{largest}
 use Rattle.power_policy_interface.specs.declared.service.event.Event.{Event}
 use Rattle.display.specs.declared.notices.Notices.{Notices}
 use Rattle.display.specs.declared.packet.EventPacket.{EventPacket}
 use Rattle.follower.specs.Held.{none}
-use Rattle.follower.specs.WellFormed.{largest}
 use Rattle.image.specs.Tagged.{taggedAt, taggedBytes}
 use Rattle.follower_image.specs.Notice.{placeTagged, placeFrom}
 use Rattle.follower_image.specs.declared.notice.ReadNotice.{ReadNotice}

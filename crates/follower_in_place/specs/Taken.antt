@@ -7,7 +7,6 @@ use lib.ListN.{getD}
 use Rattle.display.specs.declared.packet.Packet.{Packet}
 use Rattle.follower.specs.Follower.{taken}
 use Rattle.follower_image.specs.Image.{followerBytes, followerFrom}
-use Rattle.follower_image.specs.declared.ReadFollower.{ReadFollower}
 
 -- the first byte of each slot is 0: nothing is held
 abbrev pub noneIn : List ℕ → Bool

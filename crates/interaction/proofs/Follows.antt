@@ -19,21 +19,22 @@ use Rattle.display.specs.declared.AvailableConsumer.{AvailableConsumer}
 use Rattle.display.specs.declared.providers.Removed.{Removed}
 use Rattle.power_policy_service.specs.Provider.{totalOf, totalWith, powerStateOf, grantOf}
 use Rattle.power_policy_service.specs.declared.provider.PowerState.{PowerState}
-use Rattle.event.specs.Memory.{tellProvider, noNotices, psuOf, withPowerState, withProviders}
+use Rattle.abstract_policy.specs.State.{psuOf, withPowerState, withProviders}
+use Rattle.abstract_policy.specs.Action.{Held, Interaction, done, ask, Action, _>>=_, _>>_, skip, records, set, notify, ok, chargerOk, charger, psu, when, each}
+use Rattle.abstract_policy.specs.Interaction.{postConsumerConnected, updateCurrentConsumer, postProviderConnected, provide, connectProvider, removeProvider, postProviderRemoved, processPsuEvent, close, event}
+use Rattle.abstract_policy.specs.declared.state.InternalState.{InternalState}
+use Rattle.abstract_policy.specs.declared.state.Records.{Records}
+use Rattle.abstract_policy.specs.declared.state.Registration.{Registration}
+use Rattle.abstract_policy.specs.declared.order.Order.{Order}
+use Rattle.event.specs.Memory.{tellProvider, noNotices}
 use Rattle.event.specs.Phase.{orderOf, outcomeOf, switchOrder, connectOrder}
-use Rattle.event.specs.declared.memory.InternalState.{InternalState}
 use Rattle.event.specs.declared.memory.Memory.{Memory}
 use Rattle.event.specs.declared.memory.ProviderNotice.{ProviderNotice}
-use Rattle.event.specs.declared.memory.Records.{Records}
-use Rattle.event.specs.declared.memory.Registration.{Registration}
 use Rattle.event.specs.declared.phase.Leaver.{Leaver}
-use Rattle.event.specs.declared.phase.Order.{Order}
 use Rattle.event.specs.declared.phase.Phase.{Phase}
 use Rattle.event.specs.declared.phase.Stage.{Stage}
 use Rattle.update.specs.Update.{at, closed, remember}
 use Rattle.process.specs.Process.{provideIf, requestOf, provideFor, connectProviderOf, postProviderOf, afterRemoval, removeProviderOf, departOf, processOf, following, afterStage, afterOrder, answeredTo, answeredOf}
-use Rattle.interaction.specs.Action.{Held, Interaction, done, ask, Action, _>>=_, _>>_, skip, records, set, notify, ok, chargerOk, charger, psu, when, each}
-use Rattle.interaction.specs.Interaction.{postConsumerConnected, updateCurrentConsumer, postProviderConnected, provide, connectProvider, removeProvider, postProviderRemoved, processPsuEvent, close, event}
 use Rattle.interaction.specs.Machine.{heldOf, listed, rest, restOfStage, standsAt, standsFor, NotConnected, NotUpdated, Fits, stageFits, leaverFits}
 use Rattle.interaction.proofs.Steps.{update-follows, switch-from, leave-from, charge-from}
 

@@ -14,19 +14,21 @@ use Rattle.power_policy_interface.specs.declared.psu.event.EventData.{EventData
 use Rattle.display.specs.Providers.{removeOf}
 use Rattle.display.specs.declared.AvailableConsumer.{AvailableConsumer}
 use Rattle.display.specs.declared.OptionAvailableConsumer.{OptionAvailableConsumer}
-use Rattle.event.specs.Memory.{noNotices, psuOf, nextPowered, chargerUnpowered}
+use Rattle.abstract_policy.specs.State.{psuOf, chargerUnpowered}
+use Rattle.abstract_policy.specs.Interaction.{isConnectedConsumer, sameAvailable, findBestConsumer}
+use Rattle.abstract_policy.specs.declared.state.InternalState.{InternalState}
+use Rattle.abstract_policy.specs.declared.state.Records.{Records}
+use Rattle.abstract_policy.specs.declared.state.Registration.{Registration}
+use Rattle.abstract_policy.specs.declared.order.Order.{Order}
+use Rattle.event.specs.Memory.{noNotices, nextPowered}
 use Rattle.event.specs.Phase.{outcomeOf}
-use Rattle.event.specs.declared.memory.InternalState.{InternalState}
 use Rattle.event.specs.declared.memory.Memory.{Memory}
 use Rattle.event.specs.declared.memory.Notices.{Notices}
-use Rattle.event.specs.declared.memory.Records.{Records}
-use Rattle.event.specs.declared.memory.Registration.{Registration}
 use Rattle.event.specs.declared.phase.Leaver.{Leaver}
-use Rattle.event.specs.declared.phase.Order.{Order}
 use Rattle.event.specs.declared.phase.Phase.{Phase}
 use Rattle.event.specs.declared.phase.Stage.{Stage}
 use Rattle.event.specs.declared.phase.Turn.{Turn}
-use Rattle.update.specs.Update.{at, closed, remember, finishUpdateOf, connectIf, connectPsuOf, toldSwitch, switchOf, isConnectedConsumer, sameAvailable, cleared, disconnectOf, connectFrom, leftOf, leaveOf, chargeStage, toldConnected, chargeOf, chosenOf, updateNone, updateTo, updateOf}
+use Rattle.update.specs.Update.{at, closed, remember, finishUpdateOf, connectIf, connectPsuOf, toldSwitch, switchOf, cleared, disconnectOf, connectFrom, leftOf, leaveOf, chargeStage, toldConnected, chargeOf, updateNone, updateTo, updateOf}
 use Rattle.process.specs.Process.{provideIf, provideFor, removeProviderOf, processOf, following, nextFrom, afterStage, afterOrder, answeredTo, answeredOf}
 use Rattle.interaction.specs.Machine.{NotConnected, NotUpdated, Fits, stageFits, leaverFits}
 use Rattle.interaction.proofs.Follows.{nothing-told, removed-tells}
@@ -94,7 +96,7 @@ to-fits g m OptionAvailableConsumer.None f r h = none-fits g m (m .state .«curr
 to-fits g m (OptionAvailableConsumer.Some new) f r h = from-fits g m (m .state .«current_consumer_state») new f r h
 
 update-fits : (g : Registration) (m : Memory) (f : DisconnectFlags) (r : Records) → NotUpdated (m .notices) → FitsTurn g (updateOf g m f r)
-update-fits g m f r h = to-fits g m (chosenOf g m r) f r h
+update-fits g m f r h = to-fits g m (findBestConsumer g (m .state) r) f r h
 
 if-fits : (g : Registration) (m : Memory) (a : Result) (p : ℕ) (c : ProviderPowerCapability) → m .notices ≡ noNotices → FitsTurn g (provideIf a m p c)
 if-fits g m Result.Ok p c h = h

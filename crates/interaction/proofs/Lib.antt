@@ -2,8 +2,4 @@ pub mod Told
 pub mod Steps
 pub mod Follows
 pub mod Kept
-pub mod Bound
 pub mod Serves
-pub mod Logic
-pub mod Carries
-pub mod Chooses

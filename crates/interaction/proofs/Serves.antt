@@ -11,27 +11,32 @@ use lib.ListN.{length}
 use borrow.Author.Tests.{lt-ltb, ltb-true, ltb-false, eqb-true, eqb-false}
 use Rattle.power_policy_interface.specs.declared.psu.Result.{Result}
 use Rattle.power_policy_interface.specs.declared.service.event.Event.{Event}
+use Rattle.abstract_policy.specs.Refusals.{notRegistered, unknownEvent, numbersUsed, firstRefused, unknownAnswer, noAnswer}
+use Rattle.abstract_policy.specs.Given.{resultOf, eventOf}
+use Rattle.abstract_policy.specs.Action.{Held, Interaction, done, ask}
+use Rattle.abstract_policy.specs.Interaction.{close, event}
+use Rattle.abstract_policy.specs.Fed.{Answers, fedBy, ordersBy}
+use Rattle.abstract_policy.specs.Ends.{AtMost}
+use Rattle.abstract_policy.specs.Returns.{brings}
+use Rattle.abstract_policy.specs.declared.state.Records.{Records}
+use Rattle.abstract_policy.specs.declared.state.Registration.{Registration}
+use Rattle.abstract_policy.specs.declared.order.OptionOrder.{OptionOrder}
+use Rattle.abstract_policy.specs.declared.order.Order.{Order}
+use Rattle.abstract_policy.specs.declared.outcome.Step.{Step}
+use Rattle.abstract_policy.proofs.Bound.{event-bound, orders-bound}
 use Rattle.event.specs.Memory.{noNotices}
 use Rattle.event.specs.Phase.{orderOf, outcomeOf, switchOrder, connectOrder}
 use Rattle.event.specs.declared.memory.Memory.{Memory}
-use Rattle.event.specs.declared.memory.Records.{Records}
-use Rattle.event.specs.declared.memory.Registration.{Registration}
-use Rattle.event.specs.declared.phase.OptionOrder.{OptionOrder}
-use Rattle.event.specs.declared.phase.Order.{Order}
 use Rattle.event.specs.declared.phase.Phase.{Phase}
 use Rattle.event.specs.declared.phase.Turn.{Turn}
-use Rattle.process.specs.Process.{answeredOf, answeredTo, processOf}
 use Rattle.update.specs.Update.{remember}
-use Rattle.service.specs.Refusals.{notRegistered, unknownEvent, isOpen, numbersUsed, firstRefused, openRefusals, unknownAnswer, answerRefusals}
-use Rattle.service.specs.Service.{refused, serviceWith, increment, moved, movedBy, resultOf, answeredBy, answerOf, eventOf, openedOf, openOf}
+use Rattle.process.specs.Process.{answeredOf, answeredTo, processOf}
+use Rattle.service.specs.Refusals.{isOpen, openRefusals, answerRefusals}
+use Rattle.service.specs.Service.{refused, serviceWith, increment, moved, movedBy, answeredBy, answerOf, openedOf, openOf}
 use Rattle.service.specs.declared.Service.{Service}
-use Rattle.service.specs.declared.Step.{Step}
 use Rattle.service.specs.declared.Stepped.{Stepped}
-use Rattle.interaction.specs.Action.{Held, Interaction, done, ask}
-use Rattle.interaction.specs.Interaction.{close, event}
 use Rattle.interaction.specs.Machine.{heldOf, rest, standsAt, standsFor, Fits}
-use Rattle.interaction.specs.Served.{Answers, serviceAfter, noAnswer, fedBy, ordersBy, AtMost, brings, numbered, Stands, Opens, Registered, eventAt}
-use Rattle.interaction.proofs.Bound.{event-bound, orders-bound}
+use Rattle.interaction.specs.Served.{serviceAfter, numbered, Stands, Opens, Registered, eventAt}
 use Rattle.interaction.proofs.Follows.{opened, leaving-answered, switching-answered, connecting-answered, providing-answered}
 use Rattle.interaction.proofs.Told.{at-most-four}
 use Rattle.interaction.proofs.Kept.{opened-fits, answered-fits}

@@ -15,20 +15,21 @@ use Rattle.power_policy_interface.specs.declared.service.UnconstrainedState.{Un
 use Rattle.power_policy_interface.specs.declared.service.event.Event.{Event}
 use Rattle.display.specs.declared.AvailableConsumer.{AvailableConsumer}
 use Rattle.display.specs.declared.OptionAvailableConsumer.{OptionAvailableConsumer}
-use Rattle.event.specs.Memory.{tellUnconstrained, psuOf, chargerUnpowered, nextPowered, withConsumer, withUnconstrained}
-use Rattle.event.specs.declared.memory.InternalState.{InternalState}
+use Rattle.abstract_policy.specs.State.{psuOf, chargerUnpowered, withConsumer, withUnconstrained}
+use Rattle.abstract_policy.specs.Interaction.{unconstrainedOf, reasonOf, isConnectedConsumer, sameAvailable, findBestConsumer, updateUnconstrainedState, attachCharger, postConsumerConnected, detachCharger, disconnectChargers, disconnectCurrent, connectConsumer, connectNewConsumer, connectBest, updateCurrentConsumer, close}
+use Rattle.abstract_policy.specs.Action.{Held, Interaction, done, ask, Action, _>>=_, _>>_, skip, set, notify, ok, chargerOk, charger, psu, when, unless, each}
+use Rattle.abstract_policy.specs.declared.state.InternalState.{InternalState}
+use Rattle.abstract_policy.specs.declared.state.Records.{Records}
+use Rattle.abstract_policy.specs.declared.state.Registration.{Registration}
+use Rattle.abstract_policy.specs.declared.order.Order.{Order}
+use Rattle.event.specs.Memory.{tellUnconstrained, nextPowered}
 use Rattle.event.specs.declared.memory.Memory.{Memory}
-use Rattle.event.specs.declared.memory.Records.{Records}
-use Rattle.event.specs.declared.memory.Registration.{Registration}
 use Rattle.event.specs.declared.memory.UnconstrainedNotice.{UnconstrainedNotice}
 use Rattle.event.specs.declared.phase.Leaver.{Leaver}
-use Rattle.event.specs.declared.phase.Order.{Order}
 use Rattle.event.specs.declared.phase.Phase.{Phase}
 use Rattle.event.specs.declared.phase.Stage.{Stage}
 use Rattle.event.specs.declared.phase.Turn.{Turn}
-use Rattle.update.specs.Update.{at, closed, unconstrainedOf, updatedTo, finishUpdateOf, connectIf, connectPsuOf, reasonOf, toldSwitch, switchOf, isConnectedConsumer, sameAvailable, cleared, disconnectOf, connectFrom, connectNewOf, leftOf, leaveOf, chargeStage, toldConnected, chargeOf, chosenOf, updateNone, updateTo, updateOf}
-use Rattle.interaction.specs.Action.{Held, Interaction, done, ask, Action, _>>=_, _>>_, skip, set, notify, ok, chargerOk, charger, psu, when, unless, each}
-use Rattle.interaction.specs.Interaction.{updateUnconstrainedState, attachCharger, postConsumerConnected, detachCharger, disconnectChargers, disconnectCurrent, connectConsumer, connectNewConsumer, connectBest, findBestConsumer, updateCurrentConsumer, close}
+use Rattle.update.specs.Update.{at, closed, updatedTo, finishUpdateOf, connectIf, connectPsuOf, toldSwitch, switchOf, cleared, disconnectOf, connectFrom, connectNewOf, leftOf, leaveOf, chargeStage, toldConnected, chargeOf, updateNone, updateTo, updateOf}
 use Rattle.interaction.specs.Machine.{heldOf, listed, charged, switched, leaving, rest, standsAt, standsFor, NotConnected, NotUpdated}
 use Rattle.interaction.proofs.Told.{told-disconnected, told-connected, told-unconstrained}
 
@@ -169,7 +170,7 @@ update-to g m f r (OptionAvailableConsumer.Some new) h = connect-from g m (m .st
 pub update-follows : (g : Registration) (m : Memory) (f : DisconnectFlags) (r : Records) → NotUpdated (m .notices) →
     standsFor g (updateOf g m f r) ≡ updateCurrentConsumer g f (heldOf m) r close
 unfolding updateCurrentConsumer
-update-follows g m f r h = update-to g m f r (chosenOf g m r) h
+update-follows g m f r h = update-to g m f r (findBestConsumer g (m .state) r) h
 
 -- the new consumer is connected
 

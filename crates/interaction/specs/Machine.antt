@@ -7,22 +7,22 @@ use Rattle.power_policy_interface.specs.declared.psu.Result.{Result}
 use Rattle.power_policy_interface.specs.declared.service.event.Event.{Event}
 use Rattle.display.specs.declared.AvailableConsumer.{AvailableConsumer}
 use Rattle.display.specs.declared.OptionAvailableConsumer.{OptionAvailableConsumer}
-use Rattle.event.specs.Memory.{noNotices, withConsumer}
+use Rattle.abstract_policy.specs.State.{withConsumer}
+use Rattle.abstract_policy.specs.Interaction.{reasonOf, updateUnconstrainedState, attachCharger, postConsumerConnected, detachCharger, connectConsumer, postProviderConnected, close}
+use Rattle.abstract_policy.specs.Action.{Held, Interaction, done, ask, Action, _>>=_, _>>_, skip, set, notify, ok, chargerOk, charger, each}
+use Rattle.abstract_policy.specs.declared.state.Registration.{Registration}
+use Rattle.abstract_policy.specs.declared.order.Order.{Order}
+use Rattle.event.specs.Memory.{noNotices}
 use Rattle.event.specs.Phase.{switchOrder, connectOrder}
 use Rattle.event.specs.declared.memory.DisconnectedNotice.{DisconnectedNotice}
 use Rattle.event.specs.declared.memory.Memory.{Memory}
 use Rattle.event.specs.declared.memory.Notices.{Notices}
 use Rattle.event.specs.declared.memory.ProviderNotice.{ProviderNotice}
-use Rattle.event.specs.declared.memory.Registration.{Registration}
 use Rattle.event.specs.declared.memory.UnconstrainedNotice.{UnconstrainedNotice}
 use Rattle.event.specs.declared.phase.Leaver.{Leaver}
-use Rattle.event.specs.declared.phase.Order.{Order}
 use Rattle.event.specs.declared.phase.Phase.{Phase}
 use Rattle.event.specs.declared.phase.Stage.{Stage}
 use Rattle.event.specs.declared.phase.Turn.{Turn}
-use Rattle.update.specs.Update.{reasonOf}
-use Rattle.interaction.specs.Action.{Held, Interaction, done, ask, Action, _>>=_, _>>_, skip, set, notify, ok, chargerOk, charger, each}
-use Rattle.interaction.specs.Interaction.{updateUnconstrainedState, attachCharger, postConsumerConnected, detachCharger, disconnectChargers, connectConsumer, postProviderConnected, close}
 
 -- the notices in their order
 

@@ -8,35 +8,39 @@ use native.Mathlib.Omega.{arith}
 use lib.Dec.{eqb, ltb}
 use lib.ListN.{length}
 use borrow.Author.Tests.{ltb-true, lt-ltb}
+use Rattle.power_policy_interface.specs.Limits.{largest}
 use Rattle.power_policy_interface.specs.declared.psu.Result.{Result}
 use Rattle.display.specs.declared.OptionAvailableConsumer.{OptionAvailableConsumer}
+use Rattle.abstract_policy.specs.Refusals.{firstRefused, unknownAnswer}
+use Rattle.abstract_policy.specs.Given.{resultOf}
+use Rattle.abstract_policy.specs.Interaction.{close}
+use Rattle.abstract_policy.specs.Fed.{Answers, fedBy, ordersBy}
+use Rattle.abstract_policy.specs.Ends.{AtMost}
+use Rattle.abstract_policy.specs.declared.state.Records.{Records}
+use Rattle.abstract_policy.specs.declared.state.Registration.{Registration}
+use Rattle.abstract_policy.specs.declared.order.OptionOrder.{OptionOrder}
+use Rattle.abstract_policy.specs.declared.order.Order.{Order}
 use Rattle.event.specs.Memory.{noNotices}
 use Rattle.event.specs.Phase.{orderOf, outcomeOf, switchOrder, connectOrder}
 use Rattle.event.specs.declared.memory.DisconnectedNotice.{DisconnectedNotice}
 use Rattle.event.specs.declared.memory.Memory.{Memory}
 use Rattle.event.specs.declared.memory.Notices.{Notices}
 use Rattle.event.specs.declared.memory.ProviderNotice.{ProviderNotice}
-use Rattle.event.specs.declared.memory.Records.{Records}
-use Rattle.event.specs.declared.memory.Registration.{Registration}
 use Rattle.event.specs.declared.memory.UnconstrainedNotice.{UnconstrainedNotice}
 use Rattle.event.specs.declared.phase.Leaver.{Leaver}
-use Rattle.event.specs.declared.phase.OptionOrder.{OptionOrder}
-use Rattle.event.specs.declared.phase.Order.{Order}
 use Rattle.event.specs.declared.phase.Phase.{Phase}
 use Rattle.event.specs.declared.phase.Stage.{Stage}
 use Rattle.event.specs.declared.phase.Turn.{Turn}
 use Rattle.process.specs.Process.{afterOrder, answeredTo, answeredOf}
-use Rattle.service.specs.Refusals.{firstRefused, answerRefusals, unknownAnswer, isOpen}
-use Rattle.service.specs.Service.{refused, moved, movedBy, orderIn, resultOf, answeredBy, answerOf}
+use Rattle.service.specs.Refusals.{answerRefusals, isOpen}
+use Rattle.service.specs.Service.{refused, moved, movedBy, orderIn, answeredBy, answerOf}
 use Rattle.service.specs.declared.Service.{Service}
-use Rattle.interaction.specs.Interaction.{close}
 use Rattle.interaction.specs.Machine as machine
 use Rattle.interaction.specs.Machine.{heldOf, rest, standsAt, standsFor, NotConnected, NotUpdated, Fits}
-use Rattle.interaction.specs.Served.{Answers, serviceAfter, fedBy, ordersBy, AtMost, numbered, Stands}
+use Rattle.interaction.specs.Served.{serviceAfter, numbered, Stands}
 use Rattle.interaction.proofs.Follows.{leaving-answered, switching-answered, connecting-answered, providing-answered}
 use Rattle.interaction.proofs.Serves.{openOrders, service, serviceAt, answers-follow}
 use Rattle.wire.proofs.ReadWrite.{and-left, and-right}
-use Rattle.service_image.specs.Typed.{largest}
 use Rattle.service_image.specs.WellFormed.{leaverFits, stageFits, stageLeast, phaseFits, noneConnected, noProvider, notDisconnected, noConsumer, noFigures, notConnected, notUpdated, nothingTold, tells}
 use Rattle.invariant.proofs.Good.{Good, At, Limits, Parts, parts}
 use Rattle.invariant.proofs.Steps.{TurnGood, orders-most, answered-good}

@@ -5,15 +5,17 @@ use mathlib.Core.Bool.{Bool, true, _&&_}
 use Prim.Native.Nat.{ℕ, _^_, _≤_}
 use lib.Dec.{leb, ltb}
 use borrow.Author.Tests.{leb-true, le-leb}
+use Rattle.power_policy_interface.specs.Limits.{largest}
 use Rattle.display.specs.Providers.{len}
-use Rattle.event.specs.declared.memory.InternalState.{InternalState}
+use Rattle.power_policy_service.specs.Config.{ConfigFits}
+use Rattle.abstract_policy.specs.declared.state.InternalState.{InternalState}
+use Rattle.abstract_policy.specs.declared.state.Registration.{Registration}
 use Rattle.event.specs.declared.memory.Memory.{Memory}
 use Rattle.event.specs.declared.memory.Notices.{Notices}
-use Rattle.event.specs.declared.memory.Registration.{Registration}
 use Rattle.event.specs.declared.phase.Phase.{Phase}
 use Rattle.service.specs.declared.Service.{Service}
 use Rattle.wire.proofs.ReadWrite.{and-left, and-right}
-use Rattle.service_image.specs.Typed.{largest, ConsumerTyped, ProviderTyped, PhaseTyped, ConfigTyped, Typed}
+use Rattle.service_image.specs.Typed.{ConsumerTyped, ProviderTyped, PhaseTyped, Typed}
 use Rattle.service_image.specs.WellFormed.{registrationFits, consumerFits, providersFit, stateFits, phaseFits, ordersLeast, ordersMost, ordersFit, providerFits, disconnectedFits, unconstrainedFits, noticesFit, tells, numberFits, eventFits, wellFormed}
 
 pub record Good (s : Service) : Type 0 where
@@ -54,7 +56,7 @@ pub record At (ports chargers k : ℕ) (p : Phase) (m : Memory) : Type 0 where
 pub record Limits (g : Registration) : Type 0 where
   pub ports : g .ports ≤ 16
   pub chargers : g .chargers ≤ 8
-  pub config : ConfigTyped (g .config)
+  pub config : ConfigFits (g .config)
 
 pub record Parts (s : Service) : Type 0 where
   pub limits : Limits (s .registration)

@@ -10,35 +10,38 @@ use lib.ListN.{getD}
 use lib.Pow.{pow-pos}
 use borrow.Author.Tests.{ltb-true, leb-false, eqb-true, le-leb, lt-ltb}
 use Rattle.power_policy_interface.specs.Psu.{answers}
+use Rattle.power_policy_interface.specs.Limits.{largest}
 use Rattle.power_policy_interface.specs.declared.psu.Error.{Error}
 use Rattle.power_policy_interface.specs.declared.psu.OptionResult.{OptionResult}
 use Rattle.power_policy_interface.specs.declared.psu.Result.{Result}
+use Rattle.power_policy_service.specs.Config.{ConfigFits}
 use Rattle.power_policy_service.specs.declared.config.Config.{Config}
+use Rattle.abstract_policy.specs.Refusals.{notRegistered, unknownEvent, numbersUsed, firstRefused, noAnswer}
+use Rattle.abstract_policy.specs.Given.{resultIn, resultOf, eventOf}
+use Rattle.abstract_policy.specs.Policy.{Call, openEvent, giveAnswer, writePacket, writePicture}
+use Rattle.abstract_policy.specs.declared.state.InternalState.{InternalState}
+use Rattle.abstract_policy.specs.declared.state.Records.{Records}
+use Rattle.abstract_policy.specs.declared.state.Registration.{Registration}
+use Rattle.abstract_policy.specs.declared.order.OptionOrder.{OptionOrder}
+use Rattle.abstract_policy.specs.declared.order.Order.{Order}
+use Rattle.abstract_policy.specs.declared.outcome.Step.{Step}
 use Rattle.event.specs.Memory.{noNotices}
 use Rattle.event.specs.Phase.{orderOf, failed, outcomeOf, switchOrder, connectOrder}
-use Rattle.event.specs.declared.memory.InternalState.{InternalState}
 use Rattle.event.specs.declared.memory.Memory.{Memory}
-use Rattle.event.specs.declared.memory.Records.{Records}
-use Rattle.event.specs.declared.memory.Registration.{Registration}
-use Rattle.event.specs.declared.phase.OptionOrder.{OptionOrder}
-use Rattle.event.specs.declared.phase.Order.{Order}
 use Rattle.event.specs.declared.phase.Phase.{Phase}
 use Rattle.event.specs.declared.phase.Turn.{Turn}
 use Rattle.update.specs.Update.{remember}
 use Rattle.process.specs.Process.{answeredOf, processOf}
-use Rattle.service.specs.Refusals.{notRegistered, unknownEvent, isOpen, numbersUsed, firstRefused, openRefusals}
-use Rattle.service.specs.Service.{freshService, stepped, refused, moved, resultIn, resultOf, eventOf, openedOf, openOf, answerOf}
+use Rattle.service.specs.Refusals.{isOpen, openRefusals}
+use Rattle.service.specs.Service.{freshService, stepped, refused, moved, openedOf, openOf, answerOf}
 use Rattle.service.specs.declared.Service.{Service}
-use Rattle.service.specs.declared.Step.{Step}
 use Rattle.interaction.specs.Machine.{standsAt}
-use Rattle.interaction.specs.Served.{noAnswer, numbered}
+use Rattle.interaction.specs.Served.{numbered}
 use Rattle.interaction.proofs.Serves.{service, serviceAt, closed-answer, open-answer, moved-to, last-not-refused, below}
-use Rattle.run.specs.Policy.{Call, openEvent, giveAnswer, writePacket, writePicture}
-use Rattle.run.specs.Run.{after, services}
-use Rattle.run.specs.Sized.{RecordsFit, CallFits, CallsFit}
-use Rattle.service_image.specs.Typed.{largest, ConfigTyped}
-use Rattle.service_image.specs.WellFormed.{errorFits, resultFits, numberFits}
 use Rattle.wire.proofs.ReadWrite.{and-left, and-right}
+use Rattle.run.specs.Run.{afterCall, services}
+use Rattle.run.specs.Sized.{RecordsFit, CallFits, CallsFit}
+use Rattle.service_image.specs.WellFormed.{errorFits, resultFits, numberFits}
 use Rattle.invariant.proofs.Good.{Good, StateGood, MemoryGood, Limits, Parts, parts, good}
 use Rattle.invariant.proofs.Steps.{TurnGood, orders-most, process-good, answered-good}
 
@@ -49,7 +52,7 @@ cleared-good ports s h =
 
 -- a start
 
-pub start-good : (c : Config) (ports chargers : ℕ) → ports ≤ 16 → chargers ≤ 8 → ConfigTyped c → Good (freshService c ports chargers)
+pub start-good : (c : Config) (ports chargers : ℕ) → ports ≤ 16 → chargers ≤ 8 → ConfigFits c → Good (freshService c ports chargers)
 start-good c ports chargers p q t =
     good (freshService c ports chargers)
     (record {
@@ -170,7 +173,7 @@ answer-good s a r h = good (answerOf s a r .service) (answered (s .registration)
 
 -- every call, and lists of them
 
-pub after-good : (s : Service) (c : Call) → CallFits c → Good s → Good (after s c)
+pub after-good : (s : Service) (c : Call) → CallFits c → Good s → Good (afterCall s c)
 after-good s (openEvent kind device detail r) w h = open-good s kind device detail r w h
 after-good s (giveAnswer a r) w h = answer-good s a r h
 after-good s writePacket w h = h
@@ -178,4 +181,4 @@ after-good s writePicture w h = h
 
 pub services-good : (l : List Call) (s : Service) → CallsFit l → Good s → Good (services s l)
 services-good [] s w h = h
-services-good (c ∷ l) s w h = services-good l (after s c) (w .1) (after-good s c (w .0) h)
+services-good (c ∷ l) s w h = services-good l (afterCall s c) (w .1) (after-good s c (w .0) h)

@@ -11,6 +11,7 @@ use lib.Pow.{pow-lt, pow-mono}
 use borrow.Author.Tests.{leb-true, ltb-true, le-leb, lt-ltb}
 use Rattle.power_policy_interface.specs.Psu.{kindOf, hasKind, expectOf, idleOrConsumer, idleOrProvider, invalidState, canConnectConsumerOf, canConnectProviderOf}
 use Rattle.power_policy_interface.specs.Service.{sameUnconstrained}
+use Rattle.power_policy_interface.specs.Capability.{capabilityFits}
 use Rattle.power_policy_interface.specs.declared.capability.DisconnectFlags.{DisconnectFlags}
 use Rattle.power_policy_interface.specs.declared.capability.OptionProviderPowerCapability.{OptionProviderPowerCapability}
 use Rattle.power_policy_interface.specs.declared.capability.ProviderPowerCapability.{ProviderPowerCapability}
@@ -25,31 +26,32 @@ use Rattle.display.specs.declared.providers.Insert.{Insert}
 use Rattle.display.specs.declared.providers.Inserted.{Inserted}
 use Rattle.display.specs.declared.providers.Providers.{Providers}
 use Rattle.display.specs.declared.providers.Removed.{Removed}
+use Rattle.display.proofs.Tracked.{Tracks, insert-tracks, remove-tracks}
 use Rattle.power_policy_service.specs.Choice.{Chosen}
 use Rattle.power_policy_service.specs.Provider.{totalOf, totalWith, powerStateOf, grantOf}
 use Rattle.power_policy_service.specs.declared.provider.PowerState.{PowerState}
 use Rattle.power_policy_service.proofs.Choice.{chosen}
-use Rattle.event.specs.Memory.{noNotices, withConsumer, withPowerState, withProviders, withUnconstrained, tellConnected, tellDisconnected, tellProvider, tellUnconstrained, psuOf, chargerUnpowered, nextPowered}
-use Rattle.event.specs.declared.memory.InternalState.{InternalState}
+use Rattle.abstract_policy.specs.State.{withConsumer, withPowerState, withProviders, withUnconstrained, psuOf, chargerUnpowered}
+use Rattle.abstract_policy.specs.Interaction.{availableOf, unconstrainedOf, reasonOf, isConnectedConsumer, sameAvailable, findBestConsumer, noReason, detachedReason}
+use Rattle.abstract_policy.specs.declared.state.InternalState.{InternalState}
+use Rattle.abstract_policy.specs.declared.state.Records.{Records}
+use Rattle.abstract_policy.specs.declared.state.Registration.{Registration}
+use Rattle.event.specs.Memory.{noNotices, tellConnected, tellDisconnected, tellProvider, tellUnconstrained, nextPowered}
 use Rattle.event.specs.declared.memory.Memory.{Memory}
 use Rattle.event.specs.declared.memory.Notices.{Notices}
 use Rattle.event.specs.declared.memory.ProviderNotice.{ProviderNotice}
-use Rattle.event.specs.declared.memory.Records.{Records}
-use Rattle.event.specs.declared.memory.Registration.{Registration}
 use Rattle.event.specs.declared.phase.Leaver.{Leaver}
 use Rattle.event.specs.declared.phase.Phase.{Phase}
 use Rattle.event.specs.declared.phase.Stage.{Stage}
 use Rattle.event.specs.declared.phase.Turn.{Turn}
-use Rattle.update.specs.Update.{at, remember, closed, availableOf, unconstrainedOf, finishUpdateOf, connectIf, connectPsuOf, reasonOf, toldSwitch, switchOf, isConnectedConsumer, sameAvailable, cleared, disconnectOf, connectFrom, leftOf, leaveOf, chargeStage, toldConnected, chargeOf, chosenOf, updateNone, updateTo, updateOf}
-use Rattle.process.specs.Process.{provideIf, provideFor, postProviderOf, removeProviderOf, departOf, noReason, detachedReason, processOf, following, afterStage, afterOrder, answeredTo}
+use Rattle.update.specs.Update.{at, remember, closed, finishUpdateOf, connectIf, connectPsuOf, toldSwitch, switchOf, cleared, disconnectOf, connectFrom, leftOf, leaveOf, chargeStage, toldConnected, chargeOf, updateNone, updateTo, updateOf}
+use Rattle.process.specs.Process.{provideIf, provideFor, postProviderOf, removeProviderOf, departOf, processOf, following, afterStage, afterOrder, answeredTo}
 use Rattle.interaction.specs.Machine.{standsFor}
 use Rattle.interaction.proofs.Serves.{openOrders}
-use Rattle.wire.specs.WellFormed.{capabilityFits}
 use Rattle.wire.specs.WellFormed as wire
 use Rattle.wire.proofs.ReadWrite.{and-left, and-right}
 use Rattle.run.specs.Sized.{RequestFits, RecordsFit}
 use Rattle.run.proofs.Sized.{both, best-fits, psu-fits, available-le, grant-fits}
-use Rattle.display.proofs.Tracked.{Tracks, insert-tracks, remove-tracks}
 use Rattle.service_image.specs.Typed.{ConsumerTyped}
 use Rattle.service_image.specs.WellFormed.{resultFits, consumerFits, phaseFits, ordersMost, notDisconnected, notConnected, notUpdated, nothingTold}
 use Rattle.invariant.proofs.Good.{StateGood, NoticesGood, MemoryGood, At, Limits}
@@ -273,22 +275,22 @@ module _ (g : Registration) (limits : Limits g) (r : Records) where
   none-good (OptionAvailableConsumer.Some c) m f h o t = leave-good m 0 (c .psu) f 0 h o t (omega arith) (omega arith)
 
   -- the best consumer is of a registered port
-  chosen-good : (m : Memory) → RecordsFit r → (c : AvailableConsumer) → chosenOf g m r ≡ OptionAvailableConsumer.Some c → ConsumerGood (g .ports) c
+  chosen-good : (m : Memory) → RecordsFit r → (c : AvailableConsumer) → findBestConsumer g (m .state) r ≡ OptionAvailableConsumer.Some c → ConsumerGood (g .ports) c
   chosen-good m w c e = record { port = lt-ltb (c .psu) (g .ports) (below (rw e at x)); capability = and-right (leb (c .psu) 15) (capabilityFits (c .«consumer_power_capability» .capability)) (rw e at y) }
     where
-      x : Chosen (g .config .«min_consumer_threshold_mw») (m .state .«current_consumer_state») (r .psus) (min 16 (g .ports)) (chosenOf g m r)
+      x : Chosen (g .config .«min_consumer_threshold_mw») (m .state .«current_consumer_state») (r .psus) (min 16 (g .ports)) (findBestConsumer g (m .state) r)
       x = chosen (g .config .«min_consumer_threshold_mw») (m .state .«current_consumer_state») (r .psus) (min 16 (g .ports))
 
-      y : wire.consumerFits (chosenOf g m r) ≡ true
+      y : wire.consumerFits (findBestConsumer g (m .state) r) ≡ true
       y = best-fits (g .config .«min_consumer_threshold_mw») (m .state .«current_consumer_state») r (min 16 (g .ports)) (min-le-left 16 (g .ports)) w
 
       below : Chosen (g .config .«min_consumer_threshold_mw») (m .state .«current_consumer_state») (r .psus) (min 16 (g .ports)) (OptionAvailableConsumer.Some c) → c .psu < g .ports
       below b = omega (arith, b .offer .registered, min-le-right 16 (g .ports))
 
   update-good : (m : Memory) (f : DisconnectFlags) → RecordsFit r → MemoryGood (g .ports) m → notUpdated (m .notices) ≡ true → TurnGood g 0 (updateOf g m f r)
-  update-good m f w h t = go (chosenOf g m r) refl
+  update-good m f w h t = go (findBestConsumer g (m .state) r) refl
     where
-      go : (best : OptionAvailableConsumer) → chosenOf g m r ≡ best → TurnGood g 0 (updateTo best g m f r)
+      go : (best : OptionAvailableConsumer) → findBestConsumer g (m .state) r ≡ best → TurnGood g 0 (updateTo best g m f r)
       go OptionAvailableConsumer.None e = none-good (m .state .«current_consumer_state») m f h (h .state .consumer) t
       go (OptionAvailableConsumer.Some new) e = connect-from-good (m .state .«current_consumer_state») m new f h (h .state .consumer) (chosen-good m w new e) t
 
@@ -308,7 +310,7 @@ module _ (g : Registration) (limits : Limits g) (r : Records) where
       (expect-fits idleOrProvider (kindOf (psuOf r p .«psu_state»)) refl)
       (record { state = with-power (g .ports) s (m .state) (h .state); notices = h .notices })
       o
-      (grant-fits (g .config) s q (record { unlimited = limits .config .unlimited; limited = limits .config .limited }) w)
+      (grant-fits (g .config) s q (limits .config) w)
       t
 
   provided-good : (m : Memory) (p : ℕ) (c : ProviderPowerCapability) → MemoryGood (g .ports) m → ltb p (g .ports) ≡ true → capabilityFits (c .capability) ≡ true →

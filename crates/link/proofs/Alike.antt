@@ -16,25 +16,24 @@ use Rattle.display.specs.declared.Display.{Display}
 use Rattle.display.specs.declared.packet.EventPacket.{EventPacket}
 use Rattle.display.specs.declared.packet.Packet.{Packet}
 use Rattle.display.specs.declared.packet.Picture.{Picture}
+use Rattle.display.specs.declared.State.{State}
 use Rattle.wire.specs.Read.{readPacket}
 use Rattle.wire.specs.declared.packet.ReadPacket.{ReadPacket}
 use Rattle.wire.proofs.OnePacket.{write-read}
 use Rattle.abstract_desk.specs.Follower as paper
-use Rattle.abstract_desk.specs.State as said
+use Rattle.abstract_desk.specs.Takes.{readBy, takesBy, EachBytes}
 use Rattle.follower.specs.Follower.{lost, showing, at, fresh, inTurn, settled, taken, takenAt, stateAt}
 use Rattle.follower.specs.Held.{nothing, packetAt, heldFor, holds, placed, dropped, noneHeld, greatest, above}
 use Rattle.follower.specs.WellFormed.{Within, WellFormedAt, WellFormed, Readable}
 use Rattle.follower.specs.declared.Follower.{Follower}
 use Rattle.follower.specs.declared.Shown.{Shown}
-use Rattle.follower.specs.declared.State.{State}
 use Rattle.follower.specs.declared.held.Held.{Held}
 use Rattle.follower.proofs.Floor.{placed-floor}
 use Rattle.follower.proofs.Kept.{mod8, nothing-within, go-within, event-within, picture-within, fresh-kept, take-kept}
 use Rattle.follower.proofs.Laws.{event-old, event-held, event-new, event-beyond, picture-old, picture-new}
-use Rattle.link.specs.Alike.{one, heldFrom, seenAt, seen, stateSeen, Alike}
-use Rattle.link.specs.Link.{after}
-use Rattle.link.specs.Paper.{readBy, takesBy, EachOfBytes, Rising}
-use Rattle.link.specs.Takes.{takenRead, take, takes}
+use Rattle.link.specs.Alike.{one, heldFrom, seenAt, seen, Rising, Alike}
+use Rattle.link.specs.Link.{followerAfter}
+use Rattle.link.specs.Takes.{takenRead, takeBytes, takesBytes}
 use Rattle.link.proofs.Places.{Has, has-bounds}
 use Rattle.link.proofs.Lists.{readable}
 use Rattle.link.proofs.Ring.{one-none, one-below, from-next, short, none-from, dropped-from, one-there, one-here, after-here}
@@ -299,13 +298,13 @@ module _ (s : Picture) (h : Held) (w : Within (s .number + 2) (s .number + 8) h)
       (w .1 (v .0) (v .1))
 
   listed-state : (l : List EventPacket) → (t : Bool) → (t ≡ true → l ≡ []) → (t ≡ false → l ≡ [] → ⊥) →
-      stateSeen (cond t State.Level State.Waiting) ≡ paper.state (paper.showing (s .number) (s .display) l)
+      cond t State.Level State.Waiting ≡ paper.state (paper.showing (s .number) (s .display) l)
   listed-state [] true a b = refl
   listed-state [] false a b = absurd (b refl refl)
   listed-state (e ∷ l) true a b = absurd (let q : e ∷ l ≡ [] = a refl in let o : _≡_ {A = ℕ} 0 1 = cc in omega arith)
   listed-state (e ∷ l) false a b = refl
 
-state-at : (x : Shown) (h : Held) → WellFormedAt x h → stateSeen (stateAt x (noneHeld 8 h)) ≡ paper.state (seenAt x h)
+state-at : (x : Shown) (h : Held) → WellFormedAt x h → stateAt x (noneHeld 8 h) ≡ paper.state (seenAt x h)
 state-at (Shown.Lost floor) h w = refl
 state-at (Shown.Picture s) h w =
     listed-state s h (w .1) (heldFrom h (s .number + 2) 7) (noneHeld 8 h) (none-waits s h (w .1)) (some-wait s h (w .1))
@@ -345,14 +344,14 @@ read-alike : (b : List ℕ) (f : Follower) → ((k : ℕ) → getD b k 0 < 256) 
 read-alike b f a w (ReadPacket.Refused n) e = refl
 read-alike b f a w (ReadPacket.Packet p) e = taken-alike f p w (readable p (write-read b p a e .fits))
 
-takes-formed : (l : List (List ℕ)) (f : Follower) → EachOfBytes l → WellFormed f → WellFormed (takes f l)
+takes-formed : (l : List (List ℕ)) (f : Follower) → EachBytes l → WellFormed f → WellFormed (takesBytes f l)
 takes-formed [] f a w = w
-takes-formed (b ∷ l) f a w = takes-formed l (take f b) (a .1) (read-formed b f (a .0) w (readPacket b) refl)
+takes-formed (b ∷ l) f a w = takes-formed l (takeBytes f b) (a .1) (read-formed b f (a .0) w (readPacket b) refl)
 
-takes-alike : (l : List (List ℕ)) (f : Follower) → EachOfBytes l → WellFormed f → seen (takes f l) ≡ takesBy (seen f) l
+takes-alike : (l : List (List ℕ)) (f : Follower) → EachBytes l → WellFormed f → seen (takesBytes f l) ≡ takesBy (seen f) l
 takes-alike [] f a w = refl
 takes-alike (b ∷ l) f a w =
-    takes-alike l (take f b) (a .1) (read-formed b f (a .0) w (readPacket b) refl)
+    takes-alike l (takeBytes f b) (a .1) (read-formed b f (a .0) w (readPacket b) refl)
     ∙ ap (λ (x : paper.Follower). takesBy x l) (read-alike b f (a .0) w (readPacket b) refl)
 
 -- what waits
@@ -389,7 +388,7 @@ alike = record {
   shows = λ f n d. shows-at (f .shown) (f .held) n d;
   takes-alike = λ l a. takes-alike l fresh a fresh-kept;
   takes-state = λ l a.
-      state-at (after l .shown) (after l .held) (takes-formed l fresh a fresh-kept)
+      state-at (followerAfter l .shown) (followerAfter l .held) (takes-formed l fresh a fresh-kept)
       ∙ ap (λ (x : paper.Follower). paper.state x) (takes-alike l fresh a fresh-kept);
-  rising = λ l a n d held e. subst Waits (takes-alike l fresh a fresh-kept ∙ e) (seen-waits (after l .shown) (after l .held));
+  rising = λ l a n d held e. subst Waits (takes-alike l fresh a fresh-kept ∙ e) (seen-waits (followerAfter l .shown) (followerAfter l .held));
 }

@@ -21,9 +21,9 @@ use Rattle.follower.specs.declared.Follower.{Follower}
 use Rattle.follower.specs.declared.Shown.{Shown}
 use Rattle.follower.specs.declared.held.Held.{Held}
 use Rattle.follower.proofs.Kept.{fresh-kept}
-use Rattle.link.specs.Link.{after, Comes, NothingAbove, NoLower, Demand3}
+use Rattle.link.specs.Link.{followerAfter, EventsCome, NoneAbove, NoLower, Demand3}
 use Rattle.link.specs.Source.{Source}
-use Rattle.link.specs.Takes.{takenRead, take, takes, Handed, copy, turned-back, AllHanded, Met, Lost, Shows}
+use Rattle.link.specs.Takes.{takenRead, takeBytes, takesBytes, Carried, copy, turned-back, AllCarried, Met, FollowerLost, FollowerShows}
 use Rattle.link.proofs.Places.{Has, has-bounds}
 use Rattle.link.proofs.Turns.{GoodAt, ShownFrom}
 use Rattle.link.proofs.OneTake.{Kept, event-stays, picture-stays}
@@ -31,9 +31,9 @@ use Rattle.link.proofs.Lists.{read-back, not-refused, one-packet, kept-
 
 -- lists
 
-takes-on : (f : Follower) (l m : List (List ℕ)) → takes f (l ++ m) ≡ takes (takes f l) m
+takes-on : (f : Follower) (l m : List (List ℕ)) → takesBytes f (l ++ m) ≡ takesBytes (takesBytes f l) m
 takes-on f [] m = refl
-takes-on f (b ∷ l) m = takes-on (take f b) l m
+takes-on f (b ∷ l) m = takes-on (takeBytes f b) l m
 
 met-left : (p : Packet) (l m : List (List ℕ)) → Met p l → Met p (l ++ m)
 met-left p (b ∷ l) m q = ⊎-elim (λ r. inl r) (λ z. inr (met-left p l m z)) q
@@ -43,20 +43,20 @@ met-right p [] m q = q
 met-right p (b ∷ l) m q = inr (met-right p l m q)
 
 module _ (source : Source) where
-  handed-left : (l m : List (List ℕ)) → AllHanded source (l ++ m) → AllHanded source l
+  handed-left : (l m : List (List ℕ)) → AllCarried source (l ++ m) → AllCarried source l
   handed-left [] m h = tt
   handed-left (b ∷ l) m h = (h .0, handed-left l m (h .1))
 
-  handed-right : (l m : List (List ℕ)) → AllHanded source (l ++ m) → AllHanded source m
+  handed-right : (l m : List (List ℕ)) → AllCarried source (l ++ m) → AllCarried source m
   handed-right [] m h = h
   handed-right (b ∷ l) m h = handed-right l m (h .1)
 
   -- what is met was written
-  met-copy : (p : Packet) (b : List ℕ) → Handed source b → readPacket b ≡ ReadPacket.Packet p → source .Written p
+  met-copy : (p : Packet) (b : List ℕ) → Carried source b → readPacket b ≡ ReadPacket.Packet p → source .Written p
   met-copy p b (copy q w e) r = subst (λ z. source .Written z) (one-packet (read-back source q b w e) r) w
   met-copy p b (turned-back n e) r = absurd (not-refused r e)
 
-  met-written : (p : Packet) (l : List (List ℕ)) → AllHanded source l → Met p l → source .Written p
+  met-written : (p : Packet) (l : List (List ℕ)) → AllCarried source l → Met p l → source .Written p
   met-written p (b ∷ l) h q = ⊎-elim (λ r. met-copy p b (h .0) r) (λ m. met-written p l (h .1) m) q
 
   -- after a list of takes from a fresh follower
@@ -66,29 +66,29 @@ module _ (source : Source) where
   fresh-good : Kept source (λ e. ⊥) fresh
   fresh-good = record { formed = fresh-kept; good = (λ e k. absurd k, inl refl) }
 
-  kept-after : (l : List (List ℕ)) → AllHanded source l → Kept source (In l) (after l)
+  kept-after : (l : List (List ℕ)) → AllCarried source l → Kept source (In l) (followerAfter l)
   kept-after l h =
-      kept-same source (Or (λ e. ⊥) l) (In l) (λ e q. ⊎-elim (λ z. absurd z) (λ m. m) q) (λ e q. inr q) (takes fresh l)
+      kept-same source (Or (λ e. ⊥) l) (In l) (λ e q. ⊎-elim (λ z. absurd z) (λ m. m) q) (λ e q. inr q) (takesBytes fresh l)
       (all-kept source (λ e. ⊥) fresh l h fresh-good)
 
   -- (a)
 
-  shown-right : (f : Follower) (S : EventPacket → Type 0) (x : Shown) (h : Held) → f .shown ≡ x → GoodAt source S x h → Lost f ⊎ ((n : ℕ) × source .Closed n × Shows f n (source .held n))
+  shown-right : (f : Follower) (S : EventPacket → Type 0) (x : Shown) (h : Held) → f .shown ≡ x → GoodAt source S x h → FollowerLost f ⊎ ((n : ℕ) × source .Closed n × FollowerShows f n (source .held n))
   shown-right f S (Shown.Lost floor) h e g = inl (floor, e)
   shown-right f S (Shown.Picture s) h e g = inr (s .number, g .3, e ∙ ap (λ (d : Display). Shown.Picture (record { number = s .number; display = d })) (g .0))
 
-  demand-a : (l : List (List ℕ)) → AllHanded source l → Lost (after l) ⊎ ((n : ℕ) × source .Closed n × Shows (after l) n (source .held n))
+  demand-a : (l : List (List ℕ)) → AllCarried source l → FollowerLost (followerAfter l) ⊎ ((n : ℕ) × source .Closed n × FollowerShows (followerAfter l) n (source .held n))
   demand-a l h =
-      let f = after l in
+      let f = followerAfter l in
       shown-right f (In l) (f .shown) (f .held) refl (kept-after l h .good)
 
   -- (c)
 
   picture-after : (l : List (List ℕ)) (p : Picture) → source .Written (Packet.Picture p) →
-      after (l ++ (packetBytes (Packet.Picture p) ∷ [])) ≡ taken (after l) (Packet.Picture p)
+      followerAfter (l ++ (packetBytes (Packet.Picture p) ∷ [])) ≡ taken (followerAfter l) (Packet.Picture p)
   picture-after l p w =
       takes-on fresh l (packetBytes (Packet.Picture p) ∷ [])
-      ∙ ap (takenRead (after l)) (read-back source (Packet.Picture p) (packetBytes (Packet.Picture p)) w refl)
+      ∙ ap (takenRead (followerAfter l)) (read-back source (Packet.Picture p) (packetBytes (Packet.Picture p)) w refl)
 
   lost-shows : (floor : ℕ) (h : Held) (p : Picture) → floor ≤ p .number → takenAt (Shown.Lost floor) h (Packet.Picture p) .shown ≡ Shown.Picture p
   lost-shows floor h p l = rw (le-ltb (p .number) floor l)
@@ -109,21 +109,21 @@ module _ (source : Source) where
   no-lower : (S : EventPacket → Type 0) (floor n : ℕ) (h : Held) → GoodAt source S (Shown.Lost floor) h → ((e : EventPacket) → S e → e .number ≤ n) → floor ≤ n
   no-lower S floor n h g k = ⊎-elim (λ z. omega (arith, z)) (λ q. omega (arith, k (q .0) (q .1), q .2)) (g .1)
 
-  demand-c : (l : List (List ℕ)) (p : Picture) → AllHanded source l → source .Written (Packet.Picture p) → Lost (after l) →
-      (NoLower (p .number) l → Shows (after (l ++ (packetBytes (Packet.Picture p) ∷ []))) (p .number) (p .display))
-      × (Shows (after (l ++ (packetBytes (Packet.Picture p) ∷ []))) (p .number) (p .display) → NoLower (p .number) l)
+  demand-c : (l : List (List ℕ)) (p : Picture) → AllCarried source l → source .Written (Packet.Picture p) → FollowerLost (followerAfter l) →
+      (NoLower (p .number) l → FollowerShows (followerAfter (l ++ (packetBytes (Packet.Picture p) ∷ []))) (p .number) (p .display))
+      × (FollowerShows (followerAfter (l ++ (packetBytes (Packet.Picture p) ∷ []))) (p .number) (p .display) → NoLower (p .number) l)
   demand-c l p h w lost = (
-    λ k. ap (λ (f : Follower). f .shown) (picture-after l p w) ∙ (at-lost ∙ lost-shows (lost .0) (after l .held) p (no-lower (In l) (lost .0) (p .number) (after l .held) good k)),
+    λ k. ap (λ (f : Follower). f .shown) (picture-after l p w) ∙ (at-lost ∙ lost-shows (lost .0) (followerAfter l .held) p (no-lower (In l) (lost .0) (p .number) (followerAfter l .held) good k)),
     λ s e m.
-        let y : takenAt (Shown.Lost (lost .0)) (after l .held) (Packet.Picture p) .shown ≡ Shown.Picture p = sym at-lost ∙ (sym (ap (λ (f : Follower). f .shown) (picture-after l p w)) ∙ s) in
-        omega (arith, good .0 e m, lost-only (lost .0) (after l .held) p p y),
+        let y : takenAt (Shown.Lost (lost .0)) (followerAfter l .held) (Packet.Picture p) .shown ≡ Shown.Picture p = sym at-lost ∙ (sym (ap (λ (f : Follower). f .shown) (picture-after l p w)) ∙ s) in
+        omega (arith, good .0 e m, lost-only (lost .0) (followerAfter l .held) p p y),
   )
     where
-      good : GoodAt source (In l) (Shown.Lost (lost .0)) (after l .held)
-      good = subst (λ x. GoodAt source (In l) x (after l .held)) (lost .1) (kept-after l h .good)
+      good : GoodAt source (In l) (Shown.Lost (lost .0)) (followerAfter l .held)
+      good = subst (λ x. GoodAt source (In l) x (followerAfter l .held)) (lost .1) (kept-after l h .good)
 
-      at-lost : taken (after l) (Packet.Picture p) .shown ≡ takenAt (Shown.Lost (lost .0)) (after l .held) (Packet.Picture p) .shown
-      at-lost = ap (λ (x : Shown). takenAt x (after l .held) (Packet.Picture p) .shown) (lost .1)
+      at-lost : taken (followerAfter l) (Packet.Picture p) .shown ≡ takenAt (Shown.Lost (lost .0)) (followerAfter l .held) (Packet.Picture p) .shown
+      at-lost = ap (λ (x : Shown). takenAt x (followerAfter l .held) (Packet.Picture p) .shown) (lost .1)
 
   -- (d)
 
@@ -134,25 +134,25 @@ module _ (source : Source) where
       go true t = rw t
       go false t = absurd (k (ltb-false (p .number) floor t))
 
-  demand-d : (l : List (List ℕ)) (b : List ℕ) → AllHanded source l → Handed source b → Lost (after l) →
-      ((p : Picture) → readPacket b ≡ ReadPacket.Packet (Packet.Picture p) → NoLower (p .number) l → ⊥) → Lost (after (l ++ (b ∷ [])))
-  demand-d l b h g lost k = subst Lost (sym (takes-on fresh l (b ∷ []))) (go g)
+  demand-d : (l : List (List ℕ)) (b : List ℕ) → AllCarried source l → Carried source b → FollowerLost (followerAfter l) →
+      ((p : Picture) → readPacket b ≡ ReadPacket.Packet (Packet.Picture p) → NoLower (p .number) l → ⊥) → FollowerLost (followerAfter (l ++ (b ∷ [])))
+  demand-d l b h g lost k = subst FollowerLost (sym (takes-on fresh l (b ∷ []))) (go g)
     where
       f : Follower
-      f = after l
+      f = followerAfter l
 
       good : GoodAt source (In l) (Shown.Lost (lost .0)) (f .held)
       good = subst (λ x. GoodAt source (In l) x (f .held)) (lost .1) (kept-after l h .good)
 
-      go : Handed source b → Lost (take f b)
-      go (turned-back n e) = subst (λ (x : ReadPacket). Lost (takenRead f x)) (sym e) lost
+      go : Carried source b → FollowerLost (takeBytes f b)
+      go (turned-back n e) = subst (λ (x : ReadPacket). FollowerLost (takenRead f x)) (sym e) lost
       go (copy (Packet.Event y) w e) =
-          subst (λ (x : ReadPacket). Lost (takenRead f x)) (sym (read-back source (Packet.Event y) b w e))
-          (subst (λ (x : Shown). Lost (takenAt x (f .held) (Packet.Event y))) (sym (lost .1)) (_, refl))
+          subst (λ (x : ReadPacket). FollowerLost (takenRead f x)) (sym (read-back source (Packet.Event y) b w e))
+          (subst (λ (x : Shown). FollowerLost (takenAt x (f .held) (Packet.Event y))) (sym (lost .1)) (_, refl))
       go (copy (Packet.Picture y) w e) =
           let r = read-back source (Packet.Picture y) b w e in
-          subst (λ (x : ReadPacket). Lost (takenRead f x)) (sym r)
-          (subst (λ (x : Shown). Lost (takenAt x (f .held) (Packet.Picture y))) (sym (lost .1))
+          subst (λ (x : ReadPacket). FollowerLost (takenRead f x)) (sym r)
+          (subst (λ (x : Shown). FollowerLost (takenAt x (f .held) (Packet.Picture y))) (sym (lost .1))
           (lost .0, lost-stays (lost .0) (f .held) y (λ q. k y r (λ v m. omega (arith, good .0 v m, q)))))
 
   -- (b)
@@ -160,10 +160,10 @@ module _ (source : Source) where
   module _ (most n : ℕ) (All : EventPacket → Type 0) (near : most ≤ n + 8) (bounded : (e : EventPacket) → All e → e .number ≤ most)
       (fine : (e : EventPacket) → source .Written (Packet.Event e) → n < e .number → e .number ≤ most → e .answer ≡ 0) where
     -- one take: shown stays shown
-    one-stays : (S : EventPacket → Type 0) → ((e : EventPacket) → S e → All e) → (f : Follower) (b : List ℕ) → Handed source b →
+    one-stays : (S : EventPacket → Type 0) → ((e : EventPacket) → S e → All e) → (f : Follower) (b : List ℕ) → Carried source b →
         ((e : EventPacket) → readPacket b ≡ ReadPacket.Packet (Packet.Event e) → All e) →
         ((p : Picture) → readPacket b ≡ ReadPacket.Packet (Packet.Picture p) → p .number ≤ most) →
-        Kept source S f → ShownFrom most n (f .shown) → ShownFrom most n (take f b .shown)
+        Kept source S f → ShownFrom most n (f .shown) → ShownFrom most n (takeBytes f b .shown)
     one-stays S among f b (turned-back m e) ev pi k t = subst (λ x. ShownFrom most n (takenRead f x .shown)) (sym e) t
     one-stays S among f b (copy (Packet.Event y) w e) ev pi k t =
         let r : readPacket b ≡ ReadPacket.Packet (Packet.Event y) = read-back source (Packet.Event y) b w e in
@@ -174,23 +174,23 @@ module _ (source : Source) where
         subst (λ x. ShownFrom most n (takenRead f x .shown)) (sym r)
         (picture-stays most n source All near bounded fine S among f y k t (pi y r))
 
-    all-stay : (S : EventPacket → Type 0) → ((e : EventPacket) → S e → All e) → (f : Follower) (l : List (List ℕ)) → AllHanded source l →
+    all-stay : (S : EventPacket → Type 0) → ((e : EventPacket) → S e → All e) → (f : Follower) (l : List (List ℕ)) → AllCarried source l →
         ((e : EventPacket) → Met (Packet.Event e) l → All e) →
         ((p : Picture) → Met (Packet.Picture p) l → p .number ≤ most) →
-        Kept source S f → ShownFrom most n (f .shown) → ShownFrom most n (takes f l .shown)
+        Kept source S f → ShownFrom most n (f .shown) → ShownFrom most n (takesBytes f l .shown)
     all-stay S among f [] h ev pi k t = t
     all-stay S among f (b ∷ l) h ev pi k t =
-        all-stay (Or S (b ∷ [])) (λ e q. ⊎-elim (λ s. among e s) (λ m. ⊎-elim (λ r. ev e (inl r)) (λ z. absurd z) m) q) (take f b) l (h .1)
+        all-stay (Or S (b ∷ [])) (λ e q. ⊎-elim (λ s. among e s) (λ m. ⊎-elim (λ r. ev e (inl r)) (λ z. absurd z) m) q) (takeBytes f b) l (h .1)
         (λ e m. ev e (inr m)) (λ p m. pi p (inr m)) (one-kept source S f b (h .0) k)
         (one-stays S among f b (h .0) (λ e r. ev e (inl r)) (λ p r. pi p (inl r)) k t)
 
   -- at the end the greatest is shown: the next one was met, so it would be held
   at-greatest : (f : Follower) (S : EventPacket → Type 0) (n most : ℕ) (x : Shown) → f .shown ≡ x → WellFormedAt x (f .held) → GoodAt source S x (f .held) →
-      ShownFrom most n x → ((j : ℕ) → n < j → j ≤ most → (e : EventPacket) × S e × (e .number ≡ j)) → Shows f most (source .held most)
+      ShownFrom most n x → ((j : ℕ) → n < j → j ≤ most → (e : EventPacket) × S e × (e .number ≡ j)) → FollowerShows f most (source .held most)
   at-greatest f S n most (Shown.Lost floor) e w g t c = absurd t
   at-greatest f S n most (Shown.Picture s) e w g t c = go (ltb (s .number) most) refl
     where
-      go : (b : Bool) → ltb (s .number) most ≡ b → Shows f most (source .held most)
+      go : (b : Bool) → ltb (s .number) most ≡ b → FollowerShows f most (source .held most)
       go true q =
           let l : s .number < most = ltb-true _ _ q in
           let y = c (s .number + 1) (omega (arith, t .0)) (omega (arith, l)) in
@@ -201,16 +201,16 @@ module _ (source : Source) where
           e ∙ (ap (λ (d : Display). Shown.Picture (record { number = s .number; display = d })) (g .0)
           ∙ ap (λ (z : ℕ). Shown.Picture (record { number = z; display = source .held z })) m)
 
-  demand-b : (before later : List (List ℕ)) (n k : ℕ) (d : Display) → AllHanded source (before ++ later) → Shows (after before) n d → k ≤ 8 →
-      Comes n k later → NothingAbove (n + k) (before ++ later) → Shows (after (before ++ later)) (n + k) (source .held (n + k))
+  demand-b : (before later : List (List ℕ)) (n k : ℕ) (d : Display) → AllCarried source (before ++ later) → FollowerShows (followerAfter before) n d → k ≤ 8 →
+      EventsCome n k later → NoneAbove (n + k) (before ++ later) → FollowerShows (followerAfter (before ++ later)) (n + k) (source .held (n + k))
   demand-b before later n k d h s le comes above =
       at-greatest f (In (before ++ later)) n (n + k) (f .shown) refl (kept .formed) (kept .good) shown
       (λ j l m. let y = comes j l m in (y .0, met-right (Packet.Event (y .0)) before later (y .1), y .2))
     where
       f : Follower
-      f = after (before ++ later)
+      f = followerAfter (before ++ later)
 
-      kept : Kept source (In (before ++ later)) (after (before ++ later))
+      kept : Kept source (In (before ++ later)) (followerAfter (before ++ later))
       kept = kept-after (before ++ later) h
 
       fine : (e : EventPacket) → source .Written (Packet.Event e) → n < e .number → e .number ≤ n + k → e .answer ≡ 0
@@ -219,18 +219,18 @@ module _ (source : Source) where
           let z : y .0 ≡ e = source .one (y .0) e (met-written (Packet.Event (y .0)) later (handed-right before later h) (y .1)) w (y .2) in
           ap (λ (x : EventPacket). x .answer) (sym z) ∙ y .3
 
-      start : ShownFrom (n + k) n (after before .shown)
+      start : ShownFrom (n + k) n (followerAfter before .shown)
       start = subst (λ x. ShownFrom (n + k) n x) (sym s) (omega arith, omega arith)
 
-      shown : ShownFrom (n + k) n (after (before ++ later) .shown)
+      shown : ShownFrom (n + k) n (followerAfter (before ++ later) .shown)
       shown =
           subst (λ (x : Follower). ShownFrom (n + k) n (x .shown)) (sym (takes-on fresh before later))
           (all-stay (n + k) n (In (before ++ later)) (omega (arith, le)) (λ e m. above (Packet.Event e) m) fine
-          (In before) (λ e m. met-left (Packet.Event e) before later m) (after before) later (handed-right before later h)
+          (In before) (λ e m. met-left (Packet.Event e) before later m) (followerAfter before) later (handed-right before later h)
           (λ e m. met-right (Packet.Event e) before later m) (λ p m. above (Packet.Picture p) (met-right (Packet.Picture p) before later m))
           (kept-after before (handed-left before later h)) start)
 
-  fresh-lost : Lost (after [])
+  fresh-lost : FollowerLost (followerAfter [])
   fresh-lost = (0, refl)
 
   pub demand-3 : Demand3 source

@@ -25,7 +25,7 @@ use Rattle.follower.specs.declared.Shown.{Shown}
 use Rattle.follower.specs.declared.held.Held.{Held}
 use Rattle.follower.proofs.Kept.{fresh-kept}
 use Rattle.link.specs.Source.{Source}
-use Rattle.link.specs.Takes.{takenRead, take, takes, Handed, copy, turned-back, AllHanded, Met}
+use Rattle.link.specs.Takes.{takenRead, takeBytes, takesBytes, Carried, copy, turned-back, AllCarried, Met}
 use Rattle.link.proofs.Places.{all-map}
 use Rattle.link.proofs.Turns.{Known, GoodAt, ShownFrom}
 use Rattle.link.proofs.OneTake.{With, Kept, event-kept, picture-kept, event-stays, picture-stays}
@@ -99,7 +99,7 @@ abbrev pub Or : (EventPacket → Type 0) → List (List ℕ) → EventPacket →
 Or Seen l e = Seen e ⊎ Met (Packet.Event e) l
 
 module _ (source : Source) (Seen : EventPacket → Type 0) (f : Follower) (b : List ℕ) where
-  pub one-kept : Handed source b → Kept source Seen f → Kept source (Or Seen (b ∷ [])) (take f b)
+  pub one-kept : Carried source b → Kept source Seen f → Kept source (Or Seen (b ∷ [])) (takeBytes f b)
   one-kept (turned-back n e) k =
       subst (λ x. Kept source (Or Seen (b ∷ [])) (takenRead f x)) (sym e)
       (kept-same source Seen (Or Seen (b ∷ [])) (λ x q. inl q)
@@ -122,12 +122,12 @@ module _ (source : Source) (Seen : EventPacket → Type 0) (f : Follower) (b : L
 
 -- a list of takes
 
-pub all-kept : (source : Source) (Seen : EventPacket → Type 0) (f : Follower) (l : List (List ℕ)) → AllHanded source l → Kept source Seen f →
-    Kept source (Or Seen l) (takes f l)
+pub all-kept : (source : Source) (Seen : EventPacket → Type 0) (f : Follower) (l : List (List ℕ)) → AllCarried source l → Kept source Seen f →
+    Kept source (Or Seen l) (takesBytes f l)
 all-kept source Seen f [] h k = kept-same source Seen (Or Seen []) (λ x q. inl q) (λ x q. ⊎-elim (λ s. s) (λ z. absurd z) q) f k
 all-kept source Seen f (b ∷ l) h k =
     kept-same source (Or (Or Seen (b ∷ [])) l) (Or Seen (b ∷ l))
     (λ x q. ⊎-elim (λ s. ⊎-elim (λ t. inl t) (λ m. inr (⊎-elim (λ r. inl r) (λ z. absurd z) m)) s) (λ m. inr (inr m)) q)
     (λ x q. ⊎-elim (λ s. inl (inl s)) (λ m. ⊎-elim (λ r. inl (inr (inl r))) (λ n. inr n) m) q)
-    (takes (take f b) l)
-    (all-kept source (Or Seen (b ∷ [])) (take f b) l (h .1) (one-kept source Seen f b (h .0) k))
+    (takesBytes (takeBytes f b) l)
+    (all-kept source (Or Seen (b ∷ [])) (takeBytes f b) l (h .1) (one-kept source Seen f b (h .0) k))

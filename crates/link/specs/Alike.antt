@@ -1,6 +1,6 @@
 -- The follower of the code, whose packets wait in a ring of eight places, and document 01's, whose packets wait in a list: they do and say the same.
 -- Proved in proofs/Alike.antt.
-use Prim.Native.Nat.{ℕ, zero, suc, _+_}
+use Prim.Native.Nat.{ℕ, zero, suc, _+_, _≤_}
 use mathlib.Core.Bool.{cond}
 use mathlib.Core.List.{List, [], _∷_, _++_}
 use mathlib.Core.Logic.{_↔_}
@@ -10,17 +10,15 @@ use Rattle.display.specs.declared.Display.{Display}
 use Rattle.display.specs.declared.packet.EventPacket.{EventPacket}
 use Rattle.display.specs.declared.packet.Packet.{Packet}
 use Rattle.abstract_desk.specs.Follower as paper
-use Rattle.abstract_desk.specs.State as said
+use Rattle.abstract_desk.specs.Takes.{paperAfter, EachBytes}
 use Rattle.follower.specs.Follower.{fresh, taken, stateOf}
 use Rattle.follower.specs.Held.{heldFor, holds}
 use Rattle.follower.specs.WellFormed.{WellFormed, Readable}
 use Rattle.follower.specs.declared.Follower.{Follower}
 use Rattle.follower.specs.declared.Shown.{Shown}
-use Rattle.follower.specs.declared.State.{State}
 use Rattle.follower.specs.declared.held.Held.{Held}
-use Rattle.link.specs.Link.{after}
-use Rattle.link.specs.Paper.{paperAfter, EachOfBytes, Rising}
-use Rattle.link.specs.Takes.{Lost, Shows}
+use Rattle.link.specs.Link.{followerAfter}
+use Rattle.link.specs.Takes.{FollowerLost, FollowerShows}
 
 -- the packet of event m, if the ring holds it
 abbrev pub one : Held → ℕ → List EventPacket
@@ -39,10 +37,10 @@ seenAt (Shown.Picture s) h = paper.showing (s .number) (s .display) (heldFrom h 
 abbrev pub seen : Follower → paper.Follower
 seen f = seenAt (f .shown) (f .held)
 
-abbrev pub stateSeen : State → said.State
-stateSeen State.Lost = said.lost
-stateSeen State.Level = said.level
-stateSeen State.Waiting = said.waiting
+-- packets numbered from lo to hi, in rising order
+abbrev pub Rising : ℕ → ℕ → List EventPacket → Type 0
+Rising lo hi [] = Unit {0}
+Rising lo hi (e ∷ l) = (lo ≤ e .number) × (e .number ≤ hi) × Rising (e .number + 1) hi l
 
 pub record Alike : Type 0 where
   -- they start alike
@@ -50,15 +48,15 @@ pub record Alike : Type 0 where
   -- a packet that a reader gives makes the same of both
   pub one-take : (f : Follower) (p : Packet) → WellFormed f → Readable p → seen (taken f p) ≡ paper.taken (seen f) p
   -- they say the same state,
-  pub state : (f : Follower) → WellFormed f → stateSeen (stateOf f) ≡ paper.state (seen f)
+  pub state : (f : Follower) → WellFormed f → stateOf f ≡ paper.state (seen f)
   -- are lost alike, and show the same
-  pub lost : (f : Follower) → Lost f ↔ (paper.shown (seen f) ≡ none)
-  pub shows : (f : Follower) (n : ℕ) (d : Display) → Shows f n d ↔ (paper.shown (seen f) ≡ some (record { number = n; display = d }))
+  pub lost : (f : Follower) → FollowerLost f ↔ (paper.shown (seen f) ≡ none)
+  pub shows : (f : Follower) (n : ℕ) (d : Display) → FollowerShows f n d ↔ (paper.shown (seen f) ≡ some (record { number = n; display = d }))
   -- from a fresh follower on, after any bytes taken, they are alike
-  pub takes-alike : (l : List (List ℕ)) → EachOfBytes l → seen (after l) ≡ paperAfter l
+  pub takes-alike : (l : List (List ℕ)) → EachBytes l → seen (followerAfter l) ≡ paperAfter l
   -- and say the same
-  pub takes-state : (l : List (List ℕ)) → EachOfBytes l → stateSeen (stateOf (after l)) ≡ paper.state (paperAfter l)
+  pub takes-state : (l : List (List ℕ)) → EachBytes l → stateOf (followerAfter l) ≡ paper.state (paperAfter l)
   -- what waits are packets of the events n + 2 to n + 8, in rising order
   pub rising :
-      (l : List (List ℕ)) → EachOfBytes l → (n : ℕ) (d : Display) (held : List EventPacket) → paperAfter l ≡ paper.showing n d held →
+      (l : List (List ℕ)) → EachBytes l → (n : ℕ) (d : Display) (held : List EventPacket) → paperAfter l ≡ paper.showing n d held →
       Rising (n + 2) (n + 8) held

@@ -1,5 +1,4 @@
 pub mod Source
 pub mod Takes
 pub mod Link
-pub mod Paper
 pub mod Alike

@@ -13,19 +13,19 @@ use Rattle.wire.specs.declared.packet.ReadPacket.{ReadPacket}
 use Rattle.follower.specs.Follower.{fresh}
 use Rattle.follower.specs.declared.Follower.{Follower}
 use Rattle.link.specs.Source.{Source, numberIn}
-use Rattle.link.specs.Takes.{takes, Handed, AllHanded, Met, Lost, Shows}
+use Rattle.link.specs.Takes.{takesBytes, Carried, AllCarried, Met, FollowerLost, FollowerShows}
 
 -- after these takes
-abbrev pub after : List (List ℕ) → Follower
-after l = takes fresh l
+abbrev pub followerAfter : List (List ℕ) → Follower
+followerAfter l = takesBytes fresh l
 
 -- each event packet from n + 1 to n + k comes, without error
-abbrev pub Comes : ℕ → ℕ → List (List ℕ) → Type 0
-Comes n k l = (j : ℕ) → n < j → j ≤ n + k → (e : EventPacket) × Met (Packet.Event e) l × (e .number ≡ j) × (e .answer ≡ 0)
+abbrev pub EventsCome : ℕ → ℕ → List (List ℕ) → Type 0
+EventsCome n k l = (j : ℕ) → n < j → j ≤ n + k → (e : EventPacket) × Met (Packet.Event e) l × (e .number ≡ j) × (e .answer ≡ 0)
 
 -- nothing above this number is anywhere among them
-abbrev pub NothingAbove : ℕ → List (List ℕ) → Type 0
-NothingAbove n l = (p : Packet) → Met p l → numberIn p ≤ n
+abbrev pub NoneAbove : ℕ → List (List ℕ) → Type 0
+NoneAbove n l = (p : Packet) → Met p l → numberIn p ≤ n
 
 -- it is numbered no lower than every event packet met
 abbrev pub NoLower : ℕ → List (List ℕ) → Type 0
@@ -33,22 +33,22 @@ NoLower n l = (e : EventPacket) → Met (Packet.Event e) l → e .number ≤ n
 
 pub record Demand3 (source : Source) : Type 0 where
   -- a fresh follower is lost
-  pub fresh-lost : Lost (after [])
+  pub fresh-lost : FollowerLost (followerAfter [])
   -- the follower says lost, or shows the n of an event that has closed (0: the start), with exactly what was held there
-  pub a : (l : List (List ℕ)) → AllHanded source l → Lost (after l) ⊎ ((n : ℕ) × source .Closed n × Shows (after l) n (source .held n))
+  pub a : (l : List (List ℕ)) → AllCarried source l → FollowerLost (followerAfter l) ⊎ ((n : ℕ) × source .Closed n × FollowerShows (followerAfter l) n (source .held n))
   -- if it shows n and then each event packet n + 1 to n + k comes, in any order, k ≤ 8, all without error, and nothing above n + k is
   -- anywhere among the takes, it shows n + k
   pub b :
-      (before later : List (List ℕ)) (n k : ℕ) (d : Display) → AllHanded source (before ++ later) → Shows (after before) n d → k ≤ 8 →
-      Comes n k later → NothingAbove (n + k) (before ++ later) →
-      Shows (after (before ++ later)) (n + k) (source .held (n + k))
+      (before later : List (List ℕ)) (n k : ℕ) (d : Display) → AllCarried source (before ++ later) → FollowerShows (followerAfter before) n d → k ≤ 8 →
+      EventsCome n k later → NoneAbove (n + k) (before ++ later) →
+      FollowerShows (followerAfter (before ++ later)) (n + k) (source .held (n + k))
   -- lost, it shows a picture exactly when that is numbered no lower than every event packet met before
   pub c :
-      (before : List (List ℕ)) (p : Picture) → AllHanded source before → source .Written (Packet.Picture p) → Lost (after before) →
-      (NoLower (p .number) before → Shows (after (before ++ (packetBytes (Packet.Picture p) ∷ []))) (p .number) (p .display))
-      × (Shows (after (before ++ (packetBytes (Packet.Picture p) ∷ []))) (p .number) (p .display) → NoLower (p .number) before)
+      (before : List (List ℕ)) (p : Picture) → AllCarried source before → source .Written (Packet.Picture p) → FollowerLost (followerAfter before) →
+      (NoLower (p .number) before → FollowerShows (followerAfter (before ++ (packetBytes (Packet.Picture p) ∷ []))) (p .number) (p .display))
+      × (FollowerShows (followerAfter (before ++ (packetBytes (Packet.Picture p) ∷ []))) (p .number) (p .display) → NoLower (p .number) before)
   -- whatever else is handed to it, it stays lost
   pub d :
-      (before : List (List ℕ)) (b : List ℕ) → AllHanded source before → Handed source b → Lost (after before) →
+      (before : List (List ℕ)) (b : List ℕ) → AllCarried source before → Carried source b → FollowerLost (followerAfter before) →
       ((p : Picture) → readPacket b ≡ ReadPacket.Packet (Packet.Picture p) → NoLower (p .number) before → ⊥) →
-      Lost (after (before ++ (b ∷ [])))
+      FollowerLost (followerAfter (before ++ (b ∷ [])))

@@ -1,12 +1,10 @@
 -- Lists of takes: each is handed the bytes of a packet or picture that was written, in any order and however often, or bytes that 30 to 33
 -- turn back.
-use Prim.Native.Nat.{ℕ, _≤_, _<_, _+_}
-use mathlib.Core.Bool.{true}
-use mathlib.Core.List.{List, [], _∷_, _++_}
+use Prim.Native.Nat.{ℕ}
+use mathlib.Core.List.{List, [], _∷_}
 use mathlib.Core.Logic.{_⊎_}
 use mathlib.Core.Path.{_≡_}
 use Rattle.display.specs.declared.Display.{Display}
-use Rattle.display.specs.declared.packet.EventPacket.{EventPacket}
 use Rattle.display.specs.declared.packet.Packet.{Packet}
 use Rattle.display.specs.declared.packet.Picture.{Picture}
 use Rattle.wire.specs.Bytes.{packetBytes}
@@ -22,21 +20,21 @@ abbrev pub takenRead : Follower → ReadPacket → Follower
 takenRead f (ReadPacket.Refused n) = f
 takenRead f (ReadPacket.Packet p) = taken f p
 
-abbrev pub take : Follower → List ℕ → Follower
-take f b = takenRead f (readPacket b)
+abbrev pub takeBytes : Follower → List ℕ → Follower
+takeBytes f b = takenRead f (readPacket b)
 
-abbrev pub takes : Follower → List (List ℕ) → Follower
-takes f [] = f
-takes f (b ∷ l) = takes (take f b) l
+abbrev pub takesBytes : Follower → List (List ℕ) → Follower
+takesBytes f [] = f
+takesBytes f (b ∷ l) = takesBytes (takeBytes f b) l
 
 -- what the link hands over
-pub data Handed (source : Source) (b : List ℕ) : Type 0 where
-  copy : (p : Packet) → source .Written p → b ≡ packetBytes p → Handed source b
-  turned-back : (n : ℕ) → readPacket b ≡ ReadPacket.Refused n → Handed source b
+pub data Carried (source : Source) (b : List ℕ) : Type 0 where
+  copy : (p : Packet) → source .Written p → b ≡ packetBytes p → Carried source b
+  turned-back : (n : ℕ) → readPacket b ≡ ReadPacket.Refused n → Carried source b
 
-abbrev pub AllHanded : Source → List (List ℕ) → Type 0
-AllHanded source [] = Unit {0}
-AllHanded source (b ∷ l) = Handed source b × AllHanded source l
+abbrev pub AllCarried : Source → List (List ℕ) → Type 0
+AllCarried source [] = Unit {0}
+AllCarried source (b ∷ l) = Carried source b × AllCarried source l
 
 -- among the takes there is this packet
 abbrev pub Met : Packet → List (List ℕ) → Type 0
@@ -45,8 +43,8 @@ Met p (b ∷ l) = (readPacket b ≡ ReadPacket.Packet p) ⊎ Met p l
 
 -- what is shown
 
-abbrev pub Lost : Follower → Type 0
-Lost f = (floor : ℕ) × (f .shown ≡ Shown.Lost floor)
+abbrev pub FollowerLost : Follower → Type 0
+FollowerLost f = (floor : ℕ) × (f .shown ≡ Shown.Lost floor)
 
-abbrev pub Shows : Follower → ℕ → Display → Type 0
-Shows f n d = f .shown ≡ Shown.Picture (record { number = n; display = d })
+abbrev pub FollowerShows : Follower → ℕ → Display → Type 0
+FollowerShows f n d = f .shown ≡ Shown.Picture (record { number = n; display = d })

@@ -2,7 +2,7 @@
 // byte that it was lent.
 use power_policy_service::config::Config;
 ghost use mathlib.Core.Path.{_≡_};
-ghost use Rattle.exported.specs.Functions.{arguments};
+ghost use Rattle.abstract_calls.specs.Functions.{arguments};
 ghost use Rattle.exported.specs.Ours.{functions};
 
 // A fresh service with so many ports and chargers and this configuration, in bytes of any content and of an image's length.

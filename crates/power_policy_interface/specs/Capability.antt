@@ -26,6 +26,10 @@ use Rattle.power_policy_interface.specs.declared.capability.OptionDiscon
 abbrev pub maxPowerMw : PowerCapability → ℕ
 maxPowerMw c = c .«voltage_mv» * c .«current_ma» / 1000
 
+-- mV and mA of 16 bits, as every capability of the program has them
+abbrev pub capabilityFits : PowerCapability → Bool
+capabilityFits c = leb (c .«voltage_mv») 65535 && leb (c .«current_ma») 65535
+
 abbrev pub cmpCapability : PowerCapability → PowerCapability → Ordering
 cmpCapability a b = cmpNat (maxPowerMw a) (maxPowerMw b)
 

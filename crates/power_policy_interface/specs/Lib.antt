@@ -1,3 +1,4 @@
+pub mod Limits
 pub mod Order
 pub mod Capability
 pub mod Psu

@@ -1,6 +1,6 @@
 -- What the functions of psu.rt compute, line by line as psu/mod.rs has it. A set of state kinds is a number with one bit per kind.
 use Prim.Native.Nat.{ℕ, _/_, _%_, _^_}
-use mathlib.Core.Bool.{Bool, true, false, cond}
+use mathlib.Core.Bool.{Bool, cond}
 use mathlib.Core.List.{List, [], _∷_}
 use lib.Bits.{bitOr}
 use lib.Dec.{eqb}
@@ -68,6 +68,29 @@ errorByte Error.Timeout = 7
 errorByte Error.Bus = 8
 errorByte Error.Charger = 9
 errorByte Error.Failed = 10
+
+-- what an InvalidState carries
+abbrev pub mismatchOf : Error → OptionMismatch
+mismatchOf Error.InvalidDevice = OptionMismatch.None
+mismatchOf Error.CannotProvide = OptionMismatch.None
+mismatchOf Error.CannotConsume = OptionMismatch.None
+mismatchOf (Error.InvalidState m) = m
+mismatchOf Error.InvalidResponse = OptionMismatch.None
+mismatchOf Error.Busy = OptionMismatch.None
+mismatchOf Error.Timeout = OptionMismatch.None
+mismatchOf Error.Bus = OptionMismatch.None
+mismatchOf Error.Charger = OptionMismatch.None
+mismatchOf Error.Failed = OptionMismatch.None
+
+-- its two bytes; 0 where there is none
+
+abbrev pub expectedByte : OptionMismatch → ℕ
+expectedByte OptionMismatch.None = 0
+expectedByte (OptionMismatch.Some m) = m .expected
+
+abbrev pub actualByte : OptionMismatch → ℕ
+actualByte OptionMismatch.None = 0
+actualByte (OptionMismatch.Some m) = kindNumber (m .actual)
 
 -- 0 done
 abbrev pub answerByte : Result → ℕ

@@ -6,7 +6,7 @@ use crate::capability::OptionConsumerPowerCapability;
 use crate::capability::OptionProviderPowerCapability;
 use crate::capability::ProviderPowerCapability;
 ghost use mathlib.Core.Path.{_≡_};
-ghost use Rattle.power_policy_interface.specs.Psu.{kindNumber, kindOf, withKind, hasKind, detachedKind, idleOrConsumer, idleOrProvider, attachedKinds, expectOf, answerByte, errorByte, answerFrom, defaultState, attachOf, detachOf, disconnectOf, updateConsumerOf, updateRequestedOf, canConnectConsumerOf, connectConsumerOf, canConnectProviderOf, connectProviderOf, connectedProviderOf};
+ghost use Rattle.power_policy_interface.specs.Psu.{kindNumber, kindOf, withKind, hasKind, detachedKind, idleOrConsumer, idleOrProvider, attachedKinds, expectOf, answerByte, errorByte, mismatchOf, expectedByte, actualByte, answerFrom, defaultState, attachOf, detachOf, disconnectOf, updateConsumerOf, updateRequestedOf, canConnectConsumerOf, connectConsumerOf, canConnectProviderOf, connectProviderOf, connectedProviderOf};
 
 // Most basic device states.
 pub enum StateKind {
@@ -102,6 +102,49 @@ impl Error {
             Error::Bus => 8,
             Error::Charger => 9,
             Error::Failed => 10,
+        }
+    }
+
+    // The states that an InvalidState of a ported transition carries.
+    pub fn mismatch(self) -> OptionMismatch
+        ensures { λ r. ⌜ r ≡ mismatchOf self ⌝ }
+    {
+        match self {
+            Error::InvalidDevice => OptionMismatch::None,
+            Error::CannotProvide => OptionMismatch::None,
+            Error::CannotConsume => OptionMismatch::None,
+            Error::InvalidState(m) => m,
+            Error::InvalidResponse => OptionMismatch::None,
+            Error::Busy => OptionMismatch::None,
+            Error::Timeout => OptionMismatch::None,
+            Error::Bus => OptionMismatch::None,
+            Error::Charger => OptionMismatch::None,
+            Error::Failed => OptionMismatch::None,
+        }
+    }
+}
+
+impl OptionMismatch {
+    // The expected states as a byte, 0 for none.
+    pub fn expected(self) -> u8
+        ensures { λ r. ⌜ r ≡ expectedByte self ⌝ }
+    {
+        match self {
+            OptionMismatch::None => 0,
+            OptionMismatch::Some(m) => m.expected,
+        }
+    }
+
+    // The actual state as a byte, 0 for none.
+    pub fn actual(self) -> u8
+        ensures { λ r. ⌜ r ≡ actualByte self ⌝ }
+    {
+        match self {
+            OptionMismatch::None => 0,
+            OptionMismatch::Some(m) => {
+                let kind = m.actual;
+                kind.number()
+            }
         }
     }
 }

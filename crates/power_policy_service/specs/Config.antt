@@ -1,7 +1,10 @@
 -- The configurations of document 01: USB Type-C's 5 V at 3,000 mA and at 1,500 mA, 15,000 mW, no minimum.
-use Prim.Native.Nat.{ℕ}
-use mathlib.Core.Bool.{Bool, true, false, cond, _&&_}
+use Prim.Native.Nat.{ℕ, _≤_}
+use mathlib.Core.Bool.{true, cond, _&&_}
+use mathlib.Core.Path.{_≡_}
 use lib.Dec.{leb, eqb}
+use Rattle.power_policy_interface.specs.Capability.{capabilityFits}
+use Rattle.power_policy_interface.specs.Limits.{largest}
 use Rattle.power_policy_interface.specs.declared.capability.PowerCapability.{PowerCapability}
 use Rattle.power_policy_service.specs.declared.config.Config.{Config}
 use Rattle.power_policy_service.specs.declared.config.OptionConfig.{OptionConfig}
@@ -53,3 +56,15 @@ configFrom t uv ua lv la presence minimum =
     (configWith t (record { «voltage_mv» = uv; «current_ma» = ua }) (record { «voltage_mv» = lv; «current_ma» = la })
     (minimumFrom presence minimum))
     OptionConfig.None
+
+-- the figures of a configuration within their types: 32 bits for mW, 16 for mV and mA
+
+abbrev pub MinimumFits : OptionMilliwatts → Type 0
+MinimumFits OptionMilliwatts.None = Unit {0}
+MinimumFits (OptionMilliwatts.Some n) = n ≤ largest
+
+pub record ConfigFits (c : Config) : Type 0 where
+  pub threshold : c .«limited_power_threshold_mw» ≤ largest
+  pub unlimited : capabilityFits (c .«provider_unlimited») ≡ true
+  pub limited : capabilityFits (c .«provider_limited») ≡ true
+  pub minimum : MinimumFits (c .«min_consumer_threshold_mw»)

@@ -1,5 +1,5 @@
 -- The choice of the consumer: the greatest pair (mW, is current) by Rust's order of pairs, the earliest port among equals.
-use Prim.Native.Nat.{ℕ, zero, suc, min}
+use Prim.Native.Nat.{ℕ, zero, suc}
 use mathlib.Core.Bool.{Bool, true, false, cond}
 use mathlib.Core.List.{List}
 use lib.Dec.{leb, eqb}
@@ -9,7 +9,6 @@ use Rattle.power_policy_interface.specs.declared.capability.ConsumerPowerCapabi
 use Rattle.power_policy_interface.specs.declared.capability.OptionConsumerPowerCapability.{OptionConsumerPowerCapability}
 use Rattle.power_policy_interface.specs.declared.capability.Ordering.{Ordering}
 use Rattle.power_policy_interface.specs.declared.psu.State.{State}
-use Rattle.display.specs.declared.AvailableConsumer.{AvailableConsumer}
 use Rattle.display.specs.declared.OptionAvailableConsumer.{OptionAvailableConsumer}
 use Rattle.power_policy_service.specs.Rows.{psuAt}
 use Rattle.power_policy_service.specs.declared.config.OptionMilliwatts.{OptionMilliwatts}

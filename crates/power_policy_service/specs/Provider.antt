@@ -1,8 +1,8 @@
 -- Totals as sums over the row, the power state, and what a request is granted (provider.rs).
 use Prim.Native.Nat.{ℕ, zero, suc, _+_}
-use mathlib.Core.Bool.{Bool, true, false, cond}
+use mathlib.Core.Bool.{cond}
 use mathlib.Core.List.{List}
-use lib.Dec.{leb, ltb, eqb}
+use lib.Dec.{ltb, eqb}
 use Rattle.power_policy_interface.specs.Capability.{maxPowerMw}
 use Rattle.power_policy_interface.specs.Psu.{connectedProviderOf}
 use Rattle.power_policy_interface.specs.declared.capability.PowerCapability.{PowerCapability}

@@ -1,12 +1,10 @@
 -- What an event does and what an answer leads to, from one order to the next. That it follows the event as
 -- transcribed from the Rust is shown in `interaction`.
-use Prim.Native.Nat.{ℕ, suc, _-_, min}
+use Prim.Native.Nat.{ℕ, suc, min}
 use mathlib.Core.Bool.{cond}
 use lib.Dec.{ltb}
 use Rattle.power_policy_interface.specs.Psu.{canConnectProviderOf}
 use Rattle.power_policy_interface.specs.declared.capability.DisconnectFlags.{DisconnectFlags}
-use Rattle.power_policy_interface.specs.declared.capability.DisconnectReason.{DisconnectReason}
-use Rattle.power_policy_interface.specs.declared.capability.OptionDisconnectReason.{OptionDisconnectReason}
 use Rattle.power_policy_interface.specs.declared.capability.OptionProviderPowerCapability.{OptionProviderPowerCapability}
 use Rattle.power_policy_interface.specs.declared.capability.ProviderPowerCapability.{ProviderPowerCapability}
 use Rattle.power_policy_interface.specs.declared.psu.Result.{Result}
@@ -16,14 +14,16 @@ use Rattle.display.specs.declared.AvailableConsumer.{AvailableConsumer}
 use Rattle.display.specs.declared.OptionAvailableConsumer.{OptionAvailableConsumer}
 use Rattle.display.specs.declared.providers.Removed.{Removed}
 use Rattle.power_policy_service.specs.Provider.{totalOf, totalWith, powerStateOf, grantOf}
-use Rattle.event.specs.Memory.{withConsumer, withProviders, withPowerState, tellProvider, psuOf}
+use Rattle.abstract_policy.specs.State.{withConsumer, withProviders, withPowerState, psuOf}
+use Rattle.abstract_policy.specs.Interaction.{noReason, detachedReason}
+use Rattle.abstract_policy.specs.declared.state.Records.{Records}
+use Rattle.abstract_policy.specs.declared.state.Registration.{Registration}
+use Rattle.abstract_policy.specs.declared.order.Order.{Order}
+use Rattle.event.specs.Memory.{tellProvider}
 use Rattle.event.specs.Phase.{outcomeOf}
 use Rattle.event.specs.declared.memory.Memory.{Memory}
 use Rattle.event.specs.declared.memory.ProviderNotice.{ProviderNotice}
-use Rattle.event.specs.declared.memory.Records.{Records}
-use Rattle.event.specs.declared.memory.Registration.{Registration}
 use Rattle.event.specs.declared.phase.Leaver.{Leaver}
-use Rattle.event.specs.declared.phase.Order.{Order}
 use Rattle.event.specs.declared.phase.Phase.{Phase}
 use Rattle.event.specs.declared.phase.Stage.{Stage}
 use Rattle.event.specs.declared.phase.Turn.{Turn}
@@ -65,12 +65,6 @@ abbrev pub removeProviderOf : Registration → Memory → ℕ → Records → Me
 removeProviderOf g m p r = afterRemoval (removeOf (m .state .«connected_providers») p) g m p r
 
 -- the event
-
-abbrev pub noReason : DisconnectFlags
-noReason = record { reason = OptionDisconnectReason.None }
-
-abbrev pub detachedReason : DisconnectFlags
-detachedReason = record { reason = OptionDisconnectReason.Some DisconnectReason.Detached }
 
 abbrev pub departOf : Registration → Memory → ℕ → DisconnectFlags → Records → Turn
 departOf g m p f r = updateOf g (removeProviderOf g m p r) f r

@@ -1,16 +1,17 @@
 // An event from its port to its close: the provider's steps (provider.rs), what an event does (service/mod.rs), and what an answer
 // to its open order leads to.
+use abstract_policy::order::Order;
+use abstract_policy::state::Records;
+use abstract_policy::state::Registration;
 use display::AvailableConsumer;
 use display::OptionAvailableConsumer;
 use event::memory::Memory;
 use event::memory::ProviderNotice;
-use event::memory::Records;
-use event::memory::Registration;
 use event::phase::Leaver;
-use event::phase::Order;
 use event::phase::Phase;
 use event::phase::Stage;
 use event::phase::Turn;
+use event::phase::outcome;
 use power_policy_interface::capability::DisconnectFlags;
 use power_policy_interface::capability::DisconnectReason;
 use power_policy_interface::capability::OptionDisconnectReason;
@@ -267,7 +268,7 @@ pub fn answered(
 ) -> Turn
     ensures { λ r. ⌜ r ≡ answeredOf registration phase order memory answer records ⌝ }
 {
-    match order.outcome(answer) {
+    match outcome(order, answer) {
         psu::Result::Ok => after_order(registration, phase, memory, records),
         psu::Result::Err(e) => close(psu::Result::Err(e), memory),
     }

@@ -7,65 +7,60 @@ use Prim.Native.Nat.{ℕ}
 use lib.Dec.{eqb}
 use lib.ListN.{length}
 use Rattle.records.specs.Row.{AllBytes}
+use Rattle.display.specs.declared.State.{State}
 use Rattle.wire.specs.Read.{readPacket}
 use Rattle.wire.specs.declared.packet.ReadPacket.{ReadPacket}
-use Rattle.follower.specs.Follower.{fresh, stateOf, consumerOf}
 use Rattle.abstract_desk.specs.Follower as paper
+use Rattle.abstract_desk.specs.Takes.{paperAfter, EachBytes}
+use Rattle.follower.specs.Follower.{fresh, stateOf, consumerOf}
 use Rattle.follower.specs.declared.Follower.{Follower}
 use Rattle.follower.specs.declared.Shown.{Shown}
-use Rattle.follower.specs.declared.State.{State}
 use Rattle.follower.specs.declared.held.Held.{Held}
-use Rattle.link.specs.Alike.{seenAt, seen, stateSeen}
-use Rattle.link.specs.Link.{after}
-use Rattle.link.specs.Paper.{paperAfter}
+use Rattle.link.specs.Alike.{seenAt, seen}
+use Rattle.link.specs.Link.{followerAfter}
 use Rattle.link.proofs.Alike.{alike}
+use Rattle.abstract_calls.specs.Called.{Called, called, refusedCall}
+use Rattle.abstract_calls.specs.Lent.{takeTo}
+use Rattle.abstract_calls.specs.Numbers.{doneNumber, refusedNumber, shownNumber, consumerNumber}
+use Rattle.abstract_calls.specs.Calls.{desk}
 use Rattle.follower_image.specs.Image.{followerBytes, followerFrom}
 use Rattle.follower_image.specs.declared.ReadFollower.{ReadFollower}
 use Rattle.follower_image.proofs.OneImage.{follower-length, follower-bytes}
-use Rattle.calls.specs.Called.{Called, called, refusedCall}
-use Rattle.calls.specs.Calls.{takenCall, takeCall, readerCall}
-use Rattle.calls.specs.Lent.{takeTo, shownAs, trackedIn}
-use Rattle.calls.specs.Numbers.{doneNumber, refusedNumber, shownNumber, consumerNumber}
-use Rattle.exported.specs.Calls.{desk, EachBytes}
+use Rattle.calls.specs.Calls.{takenCall, takeCall, readerCall, shownAs, trackedIn}
 use Rattle.exported.specs.Ours.{functions}
 use Rattle.run_image.proofs.Takes.{each-keeps, desk-is, desk-fits, desk-read}
 use Rattle.promise.specs.Promise.{Follows, FollowerStarts}
-use Rattle.promise.specs.Runs.{stateIn, shownBy, consumerBy, trackedBy}
+use Rattle.promise.specs.Runs.{shownBy, consumerBy, trackedBy}
 
 taken-number : (b : List ℕ) (f : Follower) (y : ReadPacket) → takenCall b f y .number ≡ takeTo y
 taken-number b f (ReadPacket.Refused n) = refl
 taken-number b f (ReadPacket.Packet p) = refl
 
 module _ (x : List ℕ) (e : length x ≡ 241) (l : List (List ℕ)) (a : EachBytes l) where
-  read : followerFrom (desk functions x l) ≡ record { ok = true; follower = after l }
+  read : followerFrom (desk functions x l) ≡ record { ok = true; follower = followerAfter l }
   read = desk-read x e l (each-keeps l a)
 
   size : length (desk functions x l) ≡ 241
-  size = ap length (desk-is x e l (each-keeps l a)) ∙ follower-length (after l)
+  size = ap length (desk-is x e l (each-keeps l a)) ∙ follower-length (followerAfter l)
 
   number : (y : List ℕ) → takeCall (desk functions x l) y .number ≡ takeTo (readPacket y)
   number y =
       ap (λ (r : ReadFollower). cond {A = Called} (r .ok) (takenCall (desk functions x l) (r .follower) (readPacket y)) (refusedCall 21 (desk functions x l)) .number) read
-      ∙ taken-number (desk functions x l) (after l) (readPacket y)
+      ∙ taken-number (desk functions x l) (followerAfter l) (readPacket y)
 
   back : (y : List ℕ) (n : ℕ) → readPacket y ≡ ReadPacket.Refused n → takeCall (desk functions x l) y .bytes ≡ desk functions x l
   back y n q =
       ap (λ (r : ReadFollower). cond {A = Called} (r .ok) (takenCall (desk functions x l) (r .follower) (readPacket y)) (refusedCall 21 (desk functions x l)) .bytes) read
-      ∙ ap (λ (z : ReadPacket). takenCall (desk functions x l) (after l) z .bytes) q
+      ∙ ap (λ (z : ReadPacket). takenCall (desk functions x l) (followerAfter l) z .bytes) q
 
-  told : (t : Follower → ℕ) → readerCall (followerFrom (desk functions x l)) t ≡ t (after l)
+  told : (t : Follower → ℕ) → readerCall (followerFrom (desk functions x l)) t ≡ t (followerAfter l)
   told t = ap (λ (r : ReadFollower). readerCall r t) read
 
 -- what the code's follower tells is what document 01's does
 
-state-in : (t : State) → stateIn (stateSeen t) ≡ t
-state-in State.Lost = refl
-state-in State.Level = refl
-state-in State.Waiting = refl
-
-shown-by : (s : Shown) (h : Held) (t : State) → stateSeen t ≡ paper.state (seenAt s h) → shownAs t s ≡ shownBy (seenAt s h)
+shown-by : (s : Shown) (h : Held) (t : State) → t ≡ paper.state (seenAt s h) → shownAs t s ≡ shownBy (seenAt s h)
 shown-by (Shown.Lost floor) h t e = refl
-shown-by (Shown.Picture s) h t e = ap (λ (u : State). shownNumber u (s .number) (s .display)) (sym (state-in t) ∙ ap stateIn e)
+shown-by (Shown.Picture s) h t e = ap (λ (u : State). shownNumber u (s .number) (s .display)) e
 
 consumer-by : (s : Shown) (h : Held) → consumerNumber (consumerOf s) ≡ consumerBy (seenAt s h)
 consumer-by (Shown.Lost floor) h = refl
@@ -76,19 +71,19 @@ tracked-by (Shown.Lost floor) h = refl
 tracked-by (Shown.Picture s) h = refl
 
 module _ (l : List (List ℕ)) (a : EachBytes l) where
-  same : seen (after l) ≡ paperAfter l
+  same : seen (followerAfter l) ≡ paperAfter l
   same = alike .takes-alike l a
 
-  shown-same : shownAs (stateOf (after l)) (after l .shown) ≡ shownBy (paperAfter l)
+  shown-same : shownAs (stateOf (followerAfter l)) (followerAfter l .shown) ≡ shownBy (paperAfter l)
   shown-same =
-      shown-by (after l .shown) (after l .held) (stateOf (after l)) (alike .takes-state l a ∙ ap (λ (p : paper.Follower). paper.state p) (sym same))
+      shown-by (followerAfter l .shown) (followerAfter l .held) (stateOf (followerAfter l)) (alike .takes-state l a ∙ ap (λ (p : paper.Follower). paper.state p) (sym same))
       ∙ ap shownBy same
 
-  consumer-same : consumerNumber (consumerOf (after l .shown)) ≡ consumerBy (paperAfter l)
-  consumer-same = consumer-by (after l .shown) (after l .held) ∙ ap consumerBy same
+  consumer-same : consumerNumber (consumerOf (followerAfter l .shown)) ≡ consumerBy (paperAfter l)
+  consumer-same = consumer-by (followerAfter l .shown) (followerAfter l .held) ∙ ap consumerBy same
 
-  tracked-same : trackedIn (after l .shown) ≡ trackedBy (paperAfter l)
-  tracked-same = tracked-by (after l .shown) (after l .held) ∙ ap trackedBy same
+  tracked-same : trackedIn (followerAfter l .shown) ≡ trackedBy (paperAfter l)
+  tracked-same = tracked-by (followerAfter l .shown) (followerAfter l .held) ∙ ap trackedBy same
 
 ours-follows : (x : List ℕ) → length x ≡ 241 → Follows functions x
 ours-follows x e = record {
@@ -103,7 +98,7 @@ ours-follows x e = record {
   consumer = λ l a. told x e l a (λ f. consumerNumber (consumerOf (f .shown))) ∙ consumer-same l a;
   tracked = λ l a. told x e l a (λ f. trackedIn (f .shown)) ∙ tracked-same l a;
   size = λ l a. size x e l a;
-  bytes = λ l a. subst AllBytes (sym (desk-is x e l (each-keeps l a))) (follower-bytes (after l) (desk-fits x e l (each-keeps l a)));
+  bytes = λ l a. subst AllBytes (sym (desk-is x e l (each-keeps l a))) (follower-bytes (followerAfter l) (desk-fits x e l (each-keeps l a)));
 }
 
 pub ours-follower-starts : (x : List ℕ) → FollowerStarts functions x

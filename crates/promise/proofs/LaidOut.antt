@@ -3,41 +3,40 @@ use mathlib.Core.Path.{_≡_, refl, sym, ap, _∙_, subst}
 use mathlib.Core.Bool.{Bool, true, false, cond}
 use mathlib.Core.List.{List}
 use Prim.Native.Nat.{ℕ}
+use Rattle.records.specs.Row.{AllBytes}
+use Rattle.records.specs.Charger.{chargerFrom}
+use Rattle.records.specs.Psu.{psuFrom}
+use Rattle.records.proofs.OneRecord.{psu-read-write, psu-write-read, charger-read-write, charger-write-read}
 use Rattle.power_policy_service.specs.declared.config.Config.{Config}
 use Rattle.power_policy_service.specs.declared.config.OptionConfig.{OptionConfig}
 use Rattle.service.specs.Service.{freshService}
 use Rattle.service.specs.declared.Service.{Service}
-use Rattle.run.specs.Demands.{Equal}
-use Rattle.records.specs.Row.{AllBytes}
-use Rattle.follower.specs.Follower.{stateOf, consumerOf}
-use Rattle.follower.specs.declared.Follower.{Follower}
-use Rattle.follower_image.specs.declared.ReadFollower.{ReadFollower}
-use Rattle.invariant.proofs.Good.{Good}
-use Rattle.invariant.proofs.Bound.{good-orders, good-rest}
-use Rattle.calls.specs.Called.{Called, refusedCall}
-use Rattle.calls.specs.Calls.{takenCall}
-use Rattle.calls.specs.Lent.{shownAs, trackedIn}
-use Rattle.calls.specs.Numbers.{refusedNumber, consumerNumber}
-use Rattle.run_image.proofs.Takes.{each-keeps, desk-read}
-use Rattle.records.proofs.OneRecord.{psu-read-write, psu-write-read, charger-read-write, charger-write-read}
-use Rattle.records.specs.Charger.{chargerFrom}
-use Rattle.records.specs.Psu.{psuFrom}
 use Rattle.wire.specs.Read.{readPacket}
 use Rattle.wire.proofs.Lengths.{packet-length}
 use Rattle.wire.proofs.OneNumber as number
 use Rattle.wire.proofs.OnePacket.{read-write, write-read}
+use Rattle.follower.specs.Follower.{stateOf, consumerOf}
+use Rattle.follower.specs.declared.Follower.{Follower}
 use Rattle.report.proofs.Whole.{run-is-follow}
+use Rattle.edges.specs.Edges.{edges}
+use Rattle.run.specs.Demands.{Equal}
+use Rattle.abstract_calls.specs.Called.{Called, refusedCall}
+use Rattle.abstract_calls.specs.Numbers.{refusedNumber, consumerNumber}
+use Rattle.abstract_calls.specs.Calls.{ByteCall, CallsBytes, images}
+use Rattle.abstract_calls.specs.Functions.{Arguments, configOf}
+use Rattle.abstract_calls.specs.Definition.{defined}
+use Rattle.abstract_calls.proofs.OneToOne.{one-to-one}
 use Rattle.service_image.specs.Image.{serviceFrom}
 use Rattle.service_image.specs.declared.ReadService.{ReadService}
 use Rattle.service_image.proofs.Service.{service-read-write, service-write-read, service-read-typed}
 use Rattle.follower_image.specs.Image.{followerFrom}
+use Rattle.follower_image.specs.declared.ReadFollower.{ReadFollower}
 use Rattle.follower_image.proofs.OneImage.{follower-read-write, follower-write-read, follower-read-fits}
-use Rattle.calls.proofs.OneToOne.{one-to-one}
-use Rattle.edges.specs.Edges.{edges}
-use Rattle.exported.specs.Calls.{ByteCall, CallsBytes, images}
-use Rattle.exported.specs.Functions.{Arguments, configOf}
+use Rattle.invariant.proofs.Good.{Good}
+use Rattle.invariant.proofs.Bound.{good-orders, good-rest}
+use Rattle.calls.specs.Calls.{takenCall, shownAs, trackedIn}
 use Rattle.exported.specs.Ours.{functions}
-use Rattle.run_image.specs.Definition.{defined}
+use Rattle.run_image.proofs.Takes.{each-keeps, desk-read}
 use Rattle.run_image.proofs.Images.{image-read}
 use Rattle.run_image.proofs.Lowest.{call-refuses}
 use Rattle.run_image.proofs.Turned.{call-back}

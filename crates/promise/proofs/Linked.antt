@@ -11,7 +11,7 @@ use Rattle.display.specs.declared.Display.{Display}
 use Rattle.display.specs.declared.packet.EventPacket.{EventPacket}
 use Rattle.display.specs.declared.packet.Packet.{Packet}
 use Rattle.display.specs.declared.packet.Picture.{Picture}
-use Rattle.event.specs.declared.memory.Registration.{Registration}
+use Rattle.abstract_policy.specs.declared.state.Registration.{Registration}
 use Rattle.service.specs.declared.Service.{Service}
 use Rattle.wire.specs.Bytes.{packetBytes}
 use Rattle.wire.specs.Read.{readPacket}
@@ -21,25 +21,24 @@ use Rattle.follower.specs.Follower.{stateOf, consumerOf}
 use Rattle.follower.specs.declared.Follower.{Follower}
 use Rattle.follower.specs.declared.Shown.{Shown}
 use Rattle.link.specs.Link as link
-use Rattle.link.specs.Link.{after}
+use Rattle.link.specs.Link.{followerAfter}
 use Rattle.link.specs.Source.{Source, numberIn}
 use Rattle.link.specs.Takes as taken
 use Rattle.link.specs.Takes.{Met}
 use Rattle.link.proofs.Lists.{one-packet}
 use Rattle.run.specs.Demands as run
 use Rattle.run.specs.Demands.{OnLink}
+use Rattle.abstract_calls.specs.Numbers.{consumerNumber, shownNumber}
+use Rattle.abstract_calls.specs.Calls.{ByteCall, writePacket, writePicture, CallsBytes, desk}
+use Rattle.abstract_calls.specs.Definition.{callsOf, defined, held}
 use Rattle.service_image.specs.Image.{serviceBytes}
 use Rattle.follower_image.specs.Fits.{shownFits}
 use Rattle.follower_image.specs.Image.{followerFrom}
 use Rattle.follower_image.specs.declared.ReadFollower.{ReadFollower}
 use Rattle.follower_image.proofs.OneImage.{fits, picture-parts}
 use Rattle.invariant.proofs.Good.{Good}
-use Rattle.calls.specs.Calls.{readerCall}
-use Rattle.calls.specs.Lent.{shownAs, trackedIn}
-use Rattle.calls.specs.Numbers.{consumerNumber, shownNumber}
-use Rattle.exported.specs.Calls.{ByteCall, writePacket, writePicture, CallsBytes, desk}
+use Rattle.calls.specs.Calls.{readerCall, shownAs, trackedIn}
 use Rattle.exported.specs.Ours.{functions}
-use Rattle.run_image.specs.Definition.{callsOf, defined, held}
 use Rattle.run_image.proofs.Takes.{AllKeep, all-keep, desk-fits, desk-read}
 use Rattle.run_image.proofs.Written.{Sent, bytes-left, packet-sent, picture-sent}
 use Rattle.promise.specs.Runs.{PacketOf, PictureOf, Handed, packet, picture, turned-back, AllHanded, In, Comes, NothingAbove, NoEventAbove, Lost, Shows}
@@ -103,7 +102,7 @@ module _ (s : Service) (good : Good s) (demands : run.Demands s) (calls : List B
 
   -- what the link hands over
 
-  handed : (y : List ℕ) → Handed functions image g calls y → taken.Handed source y
+  handed : (y : List ℕ) → Handed functions image g calls y → taken.Carried source y
   handed y (packet n w) =
       let z = event-of n y w in
       taken.copy (Packet.Event (z .event)) (z .sent .written) (z .sent .bytes)
@@ -112,7 +111,7 @@ module _ (s : Service) (good : Good s) (demands : run.Demands s) (calls : List B
       taken.copy (Packet.Picture (z .view)) (z .sent .written) (z .sent .bytes)
   handed y (turned-back n e) = taken.turned-back n e
 
-  all-handed : (l : List (List ℕ)) → AllHanded functions image g calls l → taken.AllHanded source l
+  all-handed : (l : List (List ℕ)) → AllHanded functions image g calls l → taken.AllCarried source l
   all-handed [] q = tt
   all-handed (y ∷ l) q = (handed y (q .0), all-handed l (q .1))
 
@@ -140,7 +139,7 @@ module _ (s : Service) (good : Good s) (demands : run.Demands s) (calls : List B
   hands y (z ∷ l) q (inl e) = subst (λ (b : List ℕ). Handed functions image g calls b) e (q .0)
   hands y (z ∷ l) q (inr i) = hands y l (q .1) i
 
-  comes : (n k : ℕ) (l : List (List ℕ)) → Comes functions image g calls n k l → link.Comes n k l
+  comes : (n k : ℕ) (l : List (List ℕ)) → Comes functions image g calls n k l → link.EventsCome n k l
   comes n k l c j a b =
       let x = c j a b in
       let z = event-of j (x .0) (x .2 .0) in
@@ -148,7 +147,7 @@ module _ (s : Service) (good : Good s) (demands : run.Demands s) (calls : List B
 
   -- of what is met, whichever it is, the run has a packet or picture with that number
 
-  nothing-above : (m : ℕ) (l : List (List ℕ)) → AllHanded functions image g calls l → NothingAbove functions image g calls m l → link.NothingAbove m l
+  nothing-above : (m : ℕ) (l : List (List ℕ)) → AllHanded functions image g calls l → NothingAbove functions image g calls m l → link.NoneAbove m l
   nothing-above m l q c p i =
       let x = among p l i in
       go (x .0) (x .1) (x .2) (hands (x .0) l q (x .1))
@@ -185,50 +184,50 @@ module _ (s : Service) (good : Good s) (demands : run.Demands s) (calls : List B
     keep : AllKeep l
     keep = all-keep source l (all-handed l q)
 
-    told : (t : Follower → Shown → ℕ) (u : Shown) → after l .shown ≡ u → readerCall (followerFrom (desk functions x l)) (λ f. t f (f .shown)) ≡ t (after l) u
-    told t u e = ap (λ (r : ReadFollower). readerCall r (λ f. t f (f .shown))) (desk-read x size l keep) ∙ ap (t (after l)) e
+    told : (t : Follower → Shown → ℕ) (u : Shown) → followerAfter l .shown ≡ u → readerCall (followerFrom (desk functions x l)) (λ f. t f (f .shown)) ≡ t (followerAfter l) u
+    told t u e = ap (λ (r : ReadFollower). readerCall r (λ f. t f (f .shown))) (desk-read x size l keep) ∙ ap (t (followerAfter l)) e
 
-    lost-by : taken.Lost (after l) → Lost functions (desk functions x l)
+    lost-by : taken.FollowerLost (followerAfter l) → Lost functions (desk functions x l)
     lost-by z = record {
       shown = told (λ f u. shownAs (stateOf f) u) (Shown.Lost (z .0)) (z .1);
       consumer = told (λ f u. consumerNumber (consumerOf u)) (Shown.Lost (z .0)) (z .1);
       tracked = told (λ f u. trackedIn u) (Shown.Lost (z .0)) (z .1);
     }
 
-    small : (n : ℕ) (d : Display) → taken.Shows (after l) n d → d .unconstrained .available ≤ 16
+    small : (n : ℕ) (d : Display) → taken.FollowerShows (followerAfter l) n d → d .unconstrained .available ≤ 16
     small n d e =
-        let k : pictureFits (record { number = n; display = d }) ≡ true = subst (λ (u : Shown). shownFits u ≡ true) e (fits (after l) (desk-fits x size l keep) .shown) in
+        let k : pictureFits (record { number = n; display = d }) ≡ true = subst (λ (u : Shown). shownFits u ≡ true) e (fits (followerAfter l) (desk-fits x size l keep) .shown) in
         picture-parts (record { number = n; display = d }) k .available
 
-    shows-by : (n : ℕ) (d : Display) → taken.Shows (after l) n d → Shows functions (desk functions x l) n d
+    shows-by : (n : ℕ) (d : Display) → taken.FollowerShows (followerAfter l) n d → Shows functions (desk functions x l) n d
     shows-by n d e =
-        let r : functions .shown (desk functions x l) ≡ shownNumber (stateOf (after l)) n d =
+        let r : functions .shown (desk functions x l) ≡ shownNumber (stateOf (followerAfter l)) n d =
         told (λ f u. shownAs (stateOf f) u) (Shown.Picture (record { number = n; display = d })) e in
         record {
-          shown = level-or-waiting (functions .shown (desk functions x l)) n d (after l) e r;
-          number = ap (λ (y : ℕ). y / 4294967296) r ∙ shown-number (stateOf (after l)) n d (small n d e);
+          shown = level-or-waiting (functions .shown (desk functions x l)) n d (followerAfter l) e r;
+          number = ap (λ (y : ℕ). y / 4294967296) r ∙ shown-number (stateOf (followerAfter l)) n d (small n d e);
           consumer = told (λ f u. consumerNumber (consumerOf u)) (Shown.Picture (record { number = n; display = d })) e;
           tracked = told (λ f u. trackedIn u) (Shown.Picture (record { number = n; display = d })) e;
         }
 
     -- lost or shown, it is the follower that is: it can be nothing else
 
-    is : taken.Lost (after l) ⊎ ((n : ℕ) × source .Closed n × taken.Shows (after l) n (source .held n))
+    is : taken.FollowerLost (followerAfter l) ⊎ ((n : ℕ) × source .Closed n × taken.FollowerShows (followerAfter l) n (source .held n))
     is = on .demand .a l (all-handed l q)
 
-    by-lost : Lost functions (desk functions x l) → taken.Lost (after l)
+    by-lost : Lost functions (desk functions x l) → taken.FollowerLost (followerAfter l)
     by-lost z =
         ⊎-elim (λ y. y)
         (λ y. absurd (not-lost (functions .shown (desk functions x l)) (y .0) (source .held (y .0)) (shows-by (y .0) (source .held (y .0)) (y .2) .shown) (z .shown)))
         is
 
-    by-shows : (n : ℕ) (d : Display) → Shows functions (desk functions x l) n d → taken.Shows (after l) n (source .held n)
+    by-shows : (n : ℕ) (d : Display) → Shows functions (desk functions x l) n d → taken.FollowerShows (followerAfter l) n (source .held n)
     by-shows n d z =
         ⊎-elim (λ y. absurd (not-lost (functions .shown (desk functions x l)) n d (z .shown) (lost-by y .shown)))
-        (λ y. subst (λ (m : ℕ). taken.Shows (after l) m (source .held m)) (sym (shows-by (y .0) (source .held (y .0)) (y .2) .number) ∙ z .number) (y .2))
+        (λ y. subst (λ (m : ℕ). taken.FollowerShows (followerAfter l) m (source .held m)) (sym (shows-by (y .0) (source .held (y .0)) (y .2) .number) ∙ z .number) (y .2))
         is
 
-    shows-at : (n : ℕ) → taken.Shows (after l) n (source .held n) → Shows functions (desk functions x l) n (at n)
+    shows-at : (n : ℕ) → taken.FollowerShows (followerAfter l) n (source .held n) → Shows functions (desk functions x l) n (at n)
     shows-at n z = subst (λ (d : Display). Shows functions (desk functions x l) n d) (on .held n) (shows-by n (source .held n) z)
 
   -- the four conclusions
@@ -264,7 +263,7 @@ module _ (s : Service) (good : Good s) (demands : run.Demands s) (calls : List B
         u = and-one before y q (picture n w)
 
         On : List ℕ → ℕ → Display → Type 0
-        On b m d = taken.Shows (after (before ++ (b ∷ []))) m d
+        On b m d = taken.FollowerShows (followerAfter (before ++ (b ∷ []))) m d
 
         z : (link.NoLower (v .view .number) before → On (packetBytes (Packet.Picture (v .view))) (v .view .number) (v .view .display))
             × (On (packetBytes (Packet.Picture (v .view))) (v .view .number) (v .view .display) → link.NoLower (v .view .number) before)

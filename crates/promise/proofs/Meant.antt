@@ -9,21 +9,21 @@ use Rattle.display.specs.Notices.{empty, listed}
 use Rattle.display.specs.declared.packet.EventPacket.{EventPacket}
 use Rattle.power_policy_service.specs.declared.config.Config.{Config}
 use Rattle.power_policy_service.specs.declared.config.OptionConfig.{OptionConfig}
-use Rattle.event.specs.declared.memory.Registration.{Registration}
+use Rattle.abstract_policy.specs.Orders.{ordersOf}
+use Rattle.abstract_policy.specs.Policy.{started}
+use Rattle.abstract_policy.specs.Returns.{pushedAll, packetTo}
+use Rattle.abstract_policy.specs.declared.state.Registration.{Registration}
+use Rattle.abstract_policy.specs.declared.outcome.SentPacket.{SentPacket}
+use Rattle.abstract_policy.proofs.Orders.{run-counts}
 use Rattle.service.specs.Service.{freshService}
 use Rattle.service.specs.declared.Service.{Service}
-use Rattle.send.specs.declared.SentPacket.{SentPacket}
 use Rattle.interaction.proofs.Told.{at-most-four}
 use Rattle.run.specs.Demands as run
-use Rattle.run.specs.Orders.{ordersOf}
-use Rattle.run.specs.Policy.{started}
-use Rattle.run.specs.Run.{pushedAll, packetTo}
-use Rattle.run.proofs.Chosen.{run-chooses}
-use Rattle.run.proofs.Orders.{run-counts}
+use Rattle.abstract_policy.proofs.Chosen.{run-chooses}
+use Rattle.abstract_calls.specs.Calls.{ByteCall, CallsBytes}
+use Rattle.abstract_calls.specs.Functions.{Arguments, configOf}
+use Rattle.abstract_calls.specs.Definition.{callsOf, defined, Closes}
 use Rattle.invariant.proofs.Good.{Good, parts}
-use Rattle.exported.specs.Calls.{ByteCall, CallsBytes}
-use Rattle.exported.specs.Functions.{Arguments, configOf}
-use Rattle.run_image.specs.Definition.{callsOf, defined, Closes}
 use Rattle.run_image.proofs.Bounds.{orders-bound, stand-closes}
 use Rattle.run_image.proofs.Images.{calls-fit}
 use Rattle.run_image.proofs.Ranges.{order-in-range, answer-in-range, held-in-range}

@@ -10,18 +10,18 @@ use borrow.Author.Tests.{eqb-true, eqb-false, eq-eqb}
 use Rattle.records.specs.Row.{AllBytes}
 use Rattle.power_policy_service.specs.declared.config.Config.{Config}
 use Rattle.power_policy_service.specs.declared.config.OptionConfig.{OptionConfig}
-use Rattle.event.specs.declared.memory.Registration.{Registration}
-use Rattle.service.specs.Refusals.{firstRefused, startRefusals}
-use Rattle.calls.specs.Numbers.{doneNumber, refusedNumber}
-use Rattle.calls.specs.Called.{Called}
-use Rattle.exported.specs.Calls.{ByteCall, CallBytes, CallsBytes, imageAfter, returned, bufferAfter, images, takesOn, desk, EachBytes}
-use Rattle.calls.proofs.Results.{refused-low, done-low}
-use Rattle.exported.specs.Functions.{Functions, Arguments}
+use Rattle.abstract_policy.specs.Refusals.{firstRefused, startRefusals}
+use Rattle.abstract_policy.specs.declared.state.Registration.{Registration}
+use Rattle.abstract_desk.specs.Takes.{EachBytes}
+use Rattle.abstract_calls.specs.Numbers.{doneNumber, refusedNumber}
+use Rattle.abstract_calls.specs.Called.{Called}
+use Rattle.abstract_calls.specs.Calls.{ByteCall, CallBytes, CallsBytes, imageAfter, returned, bufferAfter, images, takesOn, desk}
+use Rattle.abstract_calls.specs.Functions.{Functions, Arguments, configOf}
+use Rattle.abstract_calls.specs.Definition.{startConditions}
+use Rattle.abstract_calls.proofs.Results.{refused-low, done-low}
 use Rattle.promise.specs.Promise.{doneOr, startRefused, registers, Serves, Promise}
-use Rattle.exported.specs.Functions.{configOf}
-use Rattle.promise.proofs.Starts.{configured}
 use Rattle.promise.specs.Same.{Call, start, call, follower-start, take, shown, consumer, tracked, OfBytes, seen, trace, Same}
-use Rattle.run_image.specs.Definition.{startConditions}
+use Rattle.promise.proofs.Starts.{configured}
 
 done-zero : (n : ℕ) → doneOr n ≡ doneNumber → n ≡ 0
 done-zero n e = go (eqb n 0) refl e

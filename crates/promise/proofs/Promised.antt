@@ -12,38 +12,37 @@ use Rattle.display.specs.declared.packet.Packet.{Packet}
 use Rattle.display.specs.declared.packet.Picture.{Picture}
 use Rattle.power_policy_service.specs.declared.config.Config.{Config}
 use Rattle.power_policy_service.specs.declared.config.OptionConfig.{OptionConfig}
+use Rattle.abstract_policy.specs.Refusals.{firstRefused, Applies, waiting}
+use Rattle.abstract_policy.specs.Policy.{Policy, Stand, between, at, orderAt, isAt}
+use Rattle.abstract_policy.specs.Returns.{packetTo, pictureTo}
+use Rattle.abstract_policy.specs.declared.state.Registration.{Registration}
+use Rattle.abstract_policy.specs.declared.outcome.SentPacket.{SentPacket}
+use Rattle.abstract_policy.specs.declared.outcome.SentPicture.{SentPicture}
 use Rattle.event.specs.Phase.{orderOf}
-use Rattle.event.specs.declared.memory.Registration.{Registration}
-use Rattle.service.specs.Refusals.{firstRefused, Applies, waiting}
 use Rattle.service.specs.Service.{startOf, freshService, openOf, answerOf}
 use Rattle.service.specs.declared.Service.{Service}
 use Rattle.service.specs.declared.Started.{Started}
-use Rattle.send.specs.declared.SentPacket.{SentPacket}
-use Rattle.send.specs.declared.SentPicture.{SentPicture}
 use Rattle.wire.specs.Read.{readPacket}
 use Rattle.wire.specs.declared.packet.ReadPacket.{ReadPacket}
+use Rattle.follower.specs.Follower.{stateOf, consumerOf}
+use Rattle.follower.specs.declared.Follower.{Follower}
 use Rattle.run.specs.Demands as run
 use Rattle.run.specs.Demands.{Equal}
-use Rattle.run.specs.Policy.{Policy, Stand, between, at, orderAt, isAt}
-use Rattle.run.specs.Run.{packetTo, pictureTo}
 use Rattle.run.proofs.Linked.{after-start}
 use Rattle.run.proofs.Starts.{start-fits}
+use Rattle.abstract_calls.specs.Called.{Called, refusedCall}
+use Rattle.abstract_calls.specs.Numbers.{refusedNumber, consumerNumber}
+use Rattle.abstract_calls.specs.Calls.{ByteCall, openEvent, giveAnswer, readOrder, writePacket, writePicture, bufferIn, CallsBytes, imageAfter, returned, bufferAfter, images, Writes}
+use Rattle.abstract_calls.specs.Functions.{Arguments, configOf}
+use Rattle.abstract_calls.specs.Definition.{callsOf, defined, conditionsTo, Refuses}
 use Rattle.service_image.specs.Image.{serviceBytes, serviceFrom}
 use Rattle.service_image.specs.declared.ReadService.{ReadService}
 use Rattle.service_image.proofs.Service.{service-bytes}
 use Rattle.service_image.proofs.Stored.{service-length}
-use Rattle.follower.specs.Follower.{stateOf, consumerOf}
-use Rattle.follower.specs.declared.Follower.{Follower}
 use Rattle.follower_image.specs.Image.{followerFrom}
 use Rattle.invariant.proofs.Good.{Good}
-use Rattle.calls.specs.Called.{Called, refusedCall}
-use Rattle.calls.specs.Calls.{startCall, onService, orderCall, writePacketCall, writePictureCall, takenCall, readerCall}
-use Rattle.calls.specs.Lent.{shownAs, trackedIn}
-use Rattle.calls.specs.Numbers.{refusedNumber, consumerNumber}
-use Rattle.exported.specs.Calls.{ByteCall, openEvent, giveAnswer, readOrder, writePacket, writePicture, bufferIn, CallsBytes, imageAfter, returned, bufferAfter, images, Writes}
-use Rattle.exported.specs.Functions.{Arguments, configOf}
+use Rattle.calls.specs.Calls.{startCall, onService, orderCall, writePacketCall, writePictureCall, takenCall, readerCall, shownAs, trackedIn}
 use Rattle.exported.specs.Ours.{functions}
-use Rattle.run_image.specs.Definition.{callsOf, defined, conditionsTo, Refuses}
 use Rattle.run_image.specs.Refused.{ofImage, refusalsOf}
 use Rattle.run_image.proofs.Images.{calls-fit, image-read}
 use Rattle.run_image.proofs.Lowest.{call-refuses, start-refuses}

@@ -9,12 +9,13 @@ use lib.Dec.{eqb, ltb}
 use borrow.Author.Tests.{ltb-true}
 use lib.ListN.{length, replicate, take, getD, set}
 use Rattle.power_policy_interface.specs.declared.psu.Result.{Result}
+use Rattle.records.specs.Row.{AllBytes}
 use Rattle.display.specs.declared.packet.EventPacket.{EventPacket}
 use Rattle.display.specs.declared.packet.Packet.{Packet}
 use Rattle.display.specs.declared.packet.Picture.{Picture}
 use Rattle.power_policy_service.specs.Config.{rustDefault}
-use Rattle.event.specs.declared.memory.Registration.{Registration}
-use Rattle.interaction.specs.Interaction.{updateUnconstrainedState, connectNewConsumer, disconnectCurrent, disconnectChargers, connectConsumer, postConsumerConnected, connectBest, updateCurrentConsumer, postProviderConnected, provide, connectProvider, removeProvider, postProviderRemoved, processPsuEvent}
+use Rattle.abstract_policy.specs.Interaction.{updateUnconstrainedState, connectNewConsumer, disconnectCurrent, disconnectChargers, connectConsumer, postConsumerConnected, connectBest, updateCurrentConsumer, postProviderConnected, provide, connectProvider, removeProvider, postProviderRemoved, processPsuEvent}
+use Rattle.abstract_policy.specs.declared.state.Registration.{Registration}
 use Rattle.wire.specs.Bytes.{eventBytes, noticeBytes, contractBytes, capabilityBytes, pictureBytes, consumerBytes, portsBytes}
 use Rattle.wire.specs.Number.{leb128, readNumber}
 use Rattle.wire.specs.Packet as wire
@@ -24,14 +25,13 @@ use Rattle.wire.specs.Read.{readPacket}
 use Rattle.wire.specs.declared.packet.ReadPacket.{ReadPacket}
 use Rattle.link.specs.Source.{numberIn}
 use Rattle.link.proofs.Lists.{one-packet}
-use Rattle.records.specs.Row.{AllBytes}
+use Rattle.abstract_calls.specs.Numbers.{lostNumber, closedNumber}
+use Rattle.abstract_calls.specs.Calls.{ByteCall, openEvent, giveAnswer, writePacket, writePicture, CallsBytes, imageAfter, returned, bufferAfter, images, desk}
+use Rattle.abstract_calls.specs.Functions.{Functions, Arguments, arguments, configOf}
+use Rattle.abstract_calls.specs.Definition.{defined, held, returnTo, bufferTo}
+use Rattle.abstract_calls.proofs.Results.{refused-low}
 use Rattle.follower_image.proofs.Notices.{and-left, and-right}
-use Rattle.calls.specs.Numbers.{lostNumber, closedNumber}
-use Rattle.calls.proofs.Results.{refused-low}
-use Rattle.exported.specs.Calls.{ByteCall, openEvent, giveAnswer, writePacket, writePicture, CallsBytes, imageAfter, returned, bufferAfter, images, desk}
-use Rattle.exported.specs.Functions.{Functions, Arguments, arguments, configOf}
 use Rattle.exported.specs.Ours.{functions}
-use Rattle.run_image.specs.Definition.{defined, held, returnTo, bufferTo}
 use Rattle.run_image.proofs.Written.{bytes-left}
 use Rattle.promise.specs.Runs.{PacketOf, PictureOf, packet, picture, AllHanded, Comes, NothingAbove, Lost, Shows}
 use Rattle.promise.specs.Promise.{startRefused, registers, Link, Serves, Promise}

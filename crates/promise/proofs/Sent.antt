@@ -7,12 +7,12 @@ use Rattle.power_policy_interface.specs.Psu.{answerByte}
 use Rattle.display.specs.Notices.{empty}
 use Rattle.display.specs.declared.packet.EventPacket.{EventPacket}
 use Rattle.display.specs.declared.packet.Picture.{Picture}
-use Rattle.service.specs.Refusals.{firstRefused}
-use Rattle.send.specs.Send.{displayOf, packetConditions, pictureConditions}
-use Rattle.send.specs.declared.SentPacket.{SentPacket}
-use Rattle.send.specs.declared.SentPicture.{SentPicture}
-use Rattle.run.specs.Policy.{Policy, Stand, between, at, isAt}
-use Rattle.run.specs.Run.{pushedAll, packetTo, pictureTo}
+use Rattle.abstract_policy.specs.Refusals.{firstRefused, packetConditions, pictureConditions}
+use Rattle.abstract_policy.specs.State.{displayOf}
+use Rattle.abstract_policy.specs.Policy.{Policy, Stand, between, at, isAt}
+use Rattle.abstract_policy.specs.Returns.{pushedAll, packetTo, pictureTo}
+use Rattle.abstract_policy.specs.declared.outcome.SentPacket.{SentPacket}
+use Rattle.abstract_policy.specs.declared.outcome.SentPicture.{SentPicture}
 
 abbrev pub packetOf : Policy → EventPacket
 packetOf p = record { number = p .number; answer = answerByte (p .answer); orders = p .orders; notices = pushedAll empty (p .notices) }

@@ -5,13 +5,13 @@ use mathlib.Core.Logic.{_⊎_, inl, inr}
 use Prim.Native.Nat.{ℕ, _/_, _≤_}
 use native.Mathlib.Omega.{arith}
 use Rattle.display.specs.declared.Display.{Display}
+use Rattle.display.specs.declared.State.{State}
 use Rattle.follower.specs.Follower.{stateAt, stateOf}
 use Rattle.follower.specs.Held.{noneHeld}
 use Rattle.follower.specs.declared.Follower.{Follower}
 use Rattle.follower.specs.declared.Shown.{Shown}
-use Rattle.follower.specs.declared.State.{State}
-use Rattle.calls.specs.Numbers.{lostNumber, shownNumber}
-use Rattle.calls.proofs.OneToOne.{one-to-one}
+use Rattle.abstract_calls.specs.Numbers.{lostNumber, shownNumber}
+use Rattle.abstract_calls.proofs.OneToOne.{one-to-one}
 
 pub shown-number : (t : State) (n : ℕ) (d : Display) → d .unconstrained .available ≤ 16 → shownNumber t n d / 4294967296 ≡ n
 shown-number t n d h = one-to-one .number t n d (omega (arith, h))

@@ -9,15 +9,15 @@ use lib.ListN.{length}
 use borrow.Author.Tests.{eqb-true, eqb-false}
 use Rattle.power_policy_service.specs.declared.config.Config.{Config}
 use Rattle.power_policy_service.specs.declared.config.OptionConfig.{OptionConfig}
-use Rattle.service.specs.Refusals.{firstRefused}
+use Rattle.abstract_policy.specs.Refusals.{firstRefused}
 use Rattle.service.specs.Service.{startOf, startWith, freshService}
 use Rattle.service.specs.declared.Service.{Service}
 use Rattle.service.specs.declared.Started.{Started}
+use Rattle.abstract_calls.specs.Called.{Called, called, refusedCall}
+use Rattle.abstract_calls.specs.Numbers.{doneNumber, refusedNumber}
+use Rattle.abstract_calls.specs.Definition.{startConditions}
 use Rattle.service_image.specs.Image.{serviceBytes}
-use Rattle.calls.specs.Called.{Called, called, refusedCall}
 use Rattle.calls.specs.Calls.{startedCall, startCall}
-use Rattle.calls.specs.Numbers.{doneNumber, refusedNumber}
-use Rattle.run_image.specs.Definition.{startConditions}
 use Rattle.run_image.proofs.Lowest.{start-refuses}
 use Rattle.promise.specs.Promise.{doneOr}
 

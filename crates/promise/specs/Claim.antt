@@ -9,7 +9,7 @@ use Rattle.power_policy_service.specs.PairOrder.{PairOrder}
 use Rattle.power_policy_service.specs.TypeC.{TypeC}
 use Rattle.power_policy_service.specs.declared.config.Config.{Config}
 use Rattle.power_policy_service.specs.declared.config.OptionConfig.{OptionConfig}
-use Rattle.exported.specs.Functions.{Functions, Arguments, arguments, configOf}
+use Rattle.abstract_calls.specs.Functions.{Functions, Arguments, arguments, configOf}
 use Rattle.exported.specs.Ours.{functions}
 use Rattle.promise.specs.Layout.{Layout}
 use Rattle.promise.specs.Promise.{serviceLength, startRefused, registers, Promise, Meaning}

@@ -6,45 +6,46 @@ use mathlib.Core.List.{List, _++_, flatten}
 use mathlib.Core.Logic.{_↔_}
 use mathlib.Core.Path.{_≡_}
 use lib.ListN.{length, drop}
+use Rattle.power_policy_interface.specs.declared.charger.State as charger
+use Rattle.power_policy_interface.specs.declared.psu.State as psu
 use Rattle.records.specs.Row.{AllBytes}
 use Rattle.records.specs.Charger.{chargerFrom, chargerBytes}
 use Rattle.records.specs.Psu.{psuFrom, psuBytes}
 use Rattle.records.specs.declared.charger.ReadCharger.{ReadCharger}
 use Rattle.records.specs.declared.psu.ReadPsu.{ReadPsu}
-use Rattle.power_policy_interface.specs.declared.charger.State as charger
-use Rattle.power_policy_interface.specs.declared.psu.State as psu
 use Rattle.display.specs.declared.packet.Packet.{Packet}
 use Rattle.power_policy_service.specs.declared.config.Config.{Config}
 use Rattle.power_policy_service.specs.declared.config.OptionConfig.{OptionConfig}
+use Rattle.abstract_policy.specs.Ends.{AtMost}
 use Rattle.service.specs.declared.Service.{Service}
+use Rattle.interaction.specs.Machine.{standsAt}
 use Rattle.wire.specs.Bytes.{packetBytes}
 use Rattle.wire.specs.Number.{leb128, readNumber}
 use Rattle.wire.specs.Read.{readPacket}
 use Rattle.wire.specs.WellFormed as wire
 use Rattle.wire.specs.declared.number.ReadNumber.{ReadNumber}
 use Rattle.wire.specs.declared.packet.ReadPacket.{ReadPacket}
+use Rattle.abstract_desk.specs.Takes.{EachBytes}
 use Rattle.follower.specs.declared.Follower.{Follower}
-use Rattle.interaction.specs.Machine.{standsAt}
-use Rattle.interaction.specs.Served.{AtMost}
-use Rattle.link.specs.Link.{after}
-use Rattle.run.specs.Demands.{Equal}
 use Rattle.report.specs.Desk.{follow}
 use Rattle.report.specs.Reads.{run}
+use Rattle.link.specs.Link.{followerAfter}
+use Rattle.edges.specs.Edges.{Edges}
+use Rattle.run.specs.Demands.{Equal}
+use Rattle.abstract_calls.specs.Called.{refusedCall}
+use Rattle.abstract_calls.specs.Numbers.{refusedNumber}
+use Rattle.abstract_calls.specs.OneToOne.{OneToOne}
+use Rattle.abstract_calls.specs.Calls.{ByteCall, bufferIn, CallsBytes, imageAfter, returned, bufferAfter, images, desk}
+use Rattle.abstract_calls.specs.Functions.{Arguments, configOf}
+use Rattle.abstract_calls.specs.Definition.{defined, Refuses}
 use Rattle.service_image.specs.Image.{serviceBytes, serviceFrom}
 use Rattle.service_image.specs.Typed.{Typed}
 use Rattle.service_image.specs.WellFormed.{wellFormed}
 use Rattle.service_image.specs.declared.ReadService.{ReadService}
 use Rattle.follower_image.specs.Fits.{imageFits}
 use Rattle.follower_image.specs.Image.{followerBytes, followerFrom}
-use Rattle.calls.specs.Called.{refusedCall}
 use Rattle.calls.specs.Calls.{takenCall}
-use Rattle.calls.specs.Numbers.{refusedNumber}
-use Rattle.calls.specs.OneToOne.{OneToOne}
-use Rattle.edges.specs.Edges.{Edges}
-use Rattle.exported.specs.Calls.{ByteCall, bufferIn, CallsBytes, imageAfter, returned, bufferAfter, images, desk, EachBytes}
-use Rattle.exported.specs.Functions.{Arguments, configOf}
 use Rattle.exported.specs.Ours.{functions}
-use Rattle.run_image.specs.Definition.{defined, Refuses}
 use Rattle.run_image.specs.Refused.{conditions}
 use Rattle.promise.specs.Promise.{followerLength, startRefused, registers}
 
@@ -61,7 +62,7 @@ pub record Layout : Type 0 where
       (s : Service) × (serviceFrom (images functions (functions .start image a .bytes) l) ≡ ReadService.Read s) × Equal s (defined (registers a c) l)
   -- Likewise a follower's, after its start and any takes.
   pub follower-holds :
-      (x : List ℕ) (l : List (List ℕ)) → length x ≡ followerLength → EachBytes l → followerFrom (desk functions x l) ≡ record { ok = true; follower = after l }
+      (x : List ℕ) (l : List (List ℕ)) → length x ≡ followerLength → EachBytes l → followerFrom (desk functions x l) ≡ record { ok = true; follower = followerAfter l }
   -- No image that is accepted, reached or not, passes the bound on orders.
   pub bounded :
       (b : List ℕ) (s : Service) → AllBytes b → serviceFrom b ≡ ReadService.Read s →

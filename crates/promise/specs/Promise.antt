@@ -4,17 +4,20 @@
 -- Ours keep it (proofs/Promised.antt), and only one behaviour does (Same.antt, proofs/OnlyOne.antt). The whole claim is Claim.antt: beside Promise and Meaning
 -- the bytes themselves (Layout.antt), the public documents, and the programs that do not keep it (Testers.antt).
 --
--- To read what is cited, in this order:
---   Runs.antt here, exported specs/Functions.antt and Calls.antt   functions of any program, runs of them, what the link hands over and what is shown
---   run_image specs/Definition.antt                                what the definition says of calls on bytes; refusals
---   run specs/Policy.antt, Run.antt, Orders.antt, Chosen.antt      a run as the definition has it
---   interaction specs/Action.antt, Interaction.antt                the event, to be laid beside the Rust
---   power_policy_service specs/Config.antt, Consumer.antt, Choice.antt, Provider.antt; service specs/Refusals.antt; send specs/Send.antt
---   calls specs/Numbers.antt, OneToOne.antt, Lent.antt             the numbers returned, and what they tell
---   wire specs/Number.antt, Packet.antt, Bytes.antt, Read.antt     packets and pictures
---   abstract_desk specs/Follower.antt, link specs/Paper.antt       the desk, as document 01 says it
+-- To read what is cited, in this order; 1,700 lines, none of them the machine's (tests/reach.py):
+--   promise      here, then Runs.antt: what the link hands over and what is shown
+--   calls        abstract_calls specs/Functions.antt, Calls.antt (of any program), Definition.antt (what the definition says of each; its conditions)
+--   run          abstract_policy specs/Policy.antt, Returns.antt, Orders.antt, Given.antt
+--   event        abstract_policy specs/Action.antt, Interaction.antt, State.antt, to be laid beside the Rust
+--   choice, grant, configuration
+--                power_policy_service specs/Consumer.antt, Choice.antt, Provider.antt, Config.antt; abstract_policy specs/Chosen.antt
+--   refusals     abstract_policy specs/Refusals.antt
+--   numbers      abstract_calls specs/Numbers.antt, OneToOne.antt, Called.antt, Lent.antt
+--   packets      wire specs/Number.antt, Parser.antt, Packet.antt, Bytes.antt, Read.antt; display specs/; records specs/; power_policy_interface specs/
+--   follower     abstract_desk specs/Follower.antt, Takes.antt
+--   link         `Link`, below
 use Prim.Native.Nat.{ℕ, _+_, _*_, _%_, _≤_}
-use mathlib.Core.Bool.{Bool, true, false, cond}
+use mathlib.Core.Bool.{false, cond}
 use mathlib.Core.List.{List, [], _∷_, _++_}
 use mathlib.Core.Logic.{_⊎_, _↔_}
 use mathlib.Core.Path.{_≡_}
@@ -27,23 +30,23 @@ use Rattle.display.specs.declared.packet.Packet.{Packet}
 use Rattle.display.specs.declared.packet.Picture.{Picture}
 use Rattle.power_policy_service.specs.declared.config.Config.{Config}
 use Rattle.power_policy_service.specs.declared.config.OptionConfig.{OptionConfig}
-use Rattle.event.specs.declared.memory.Registration.{Registration}
-use Rattle.service.specs.Refusals.{firstRefused, Lowest}
-use Rattle.send.specs.declared.SentPacket.{SentPacket}
-use Rattle.send.specs.declared.SentPicture.{SentPicture}
+use Rattle.abstract_policy.specs.Refusals.{firstRefused, Lowest}
+use Rattle.abstract_policy.specs.Chosen.{Choices}
+use Rattle.abstract_policy.specs.Orders.{ordersOf, Counted}
+use Rattle.abstract_policy.specs.Policy.{between, started}
+use Rattle.abstract_policy.specs.Returns.{packetTo, pictureTo}
+use Rattle.abstract_policy.specs.declared.state.Registration.{Registration}
+use Rattle.abstract_policy.specs.declared.outcome.SentPacket.{SentPacket}
+use Rattle.abstract_policy.specs.declared.outcome.SentPicture.{SentPicture}
 use Rattle.wire.specs.Read.{readPacket}
 use Rattle.wire.specs.declared.packet.ReadPacket.{ReadPacket}
-use Rattle.link.specs.Paper.{paperAfter}
-use Rattle.calls.specs.Lent.{takeTo}
-use Rattle.calls.specs.Numbers.{refusedNumber, doneNumber}
-use Rattle.calls.specs.OneToOne.{AnswerFits, DisplayFits}
-use Rattle.run.specs.Chosen.{Choices}
-use Rattle.run.specs.Orders.{ordersOf, Counted}
-use Rattle.run.specs.Policy.{between, started}
-use Rattle.run.specs.Run.{packetTo, pictureTo}
-use Rattle.exported.specs.Calls.{ByteCall, writePacket, writePicture, bufferIn, CallsBytes, imageAfter, returned, bufferAfter, images, Writes, desk, EachBytes}
-use Rattle.exported.specs.Functions.{Functions, Arguments, configOf}
-use Rattle.run_image.specs.Definition.{callsOf, defined, held, Closes, OrderFitsAt, returnTo, bufferTo, conditionsTo, startConditions, Refuses}
+use Rattle.abstract_desk.specs.Takes.{paperAfter, EachBytes}
+use Rattle.abstract_calls.specs.Lent.{takeTo}
+use Rattle.abstract_calls.specs.Numbers.{refusedNumber, doneNumber}
+use Rattle.abstract_calls.specs.OneToOne.{AnswerFits, DisplayFits}
+use Rattle.abstract_calls.specs.Calls.{ByteCall, writePacket, writePicture, bufferIn, CallsBytes, imageAfter, returned, bufferAfter, images, Writes, desk}
+use Rattle.abstract_calls.specs.Functions.{Functions, Arguments, configOf}
+use Rattle.abstract_calls.specs.Definition.{callsOf, defined, held, Closes, OrderFitsAt, returnTo, bufferTo, conditionsTo, startConditions, Refuses}
 use Rattle.promise.specs.Runs.{PictureOf, Handed, AllHanded, Comes, NothingAbove, NoEventAbove, Lost, Shows, shownBy, consumerBy, trackedBy}
 
 -- the lengths of the images, which the header names

@@ -8,16 +8,15 @@ use Rattle.power_policy_interface.specs.declared.psu.Result.{Result}
 use Rattle.display.specs.Providers.{none}
 use Rattle.display.specs.declared.Display.{Display}
 use Rattle.display.specs.declared.OptionAvailableConsumer.{OptionAvailableConsumer}
-use Rattle.event.specs.declared.memory.Registration.{Registration}
+use Rattle.display.specs.declared.State.{State}
+use Rattle.abstract_policy.specs.declared.state.Registration.{Registration}
 use Rattle.wire.specs.Read.{readPacket}
 use Rattle.wire.specs.declared.packet.ReadPacket.{ReadPacket}
 use Rattle.abstract_desk.specs.Follower as paper
-use Rattle.abstract_desk.specs.State as said
-use Rattle.follower.specs.declared.State.{State}
-use Rattle.calls.specs.Numbers.{lostNumber, shownNumber, consumerNumber, trackedNumber}
-use Rattle.exported.specs.Calls.{ByteCall, writePacket, writePicture, images, Writes}
-use Rattle.exported.specs.Functions.{Functions}
-use Rattle.run_image.specs.Definition.{defined}
+use Rattle.abstract_calls.specs.Numbers.{lostNumber, shownNumber, consumerNumber, trackedNumber}
+use Rattle.abstract_calls.specs.Calls.{ByteCall, writePacket, writePicture, images, Writes}
+use Rattle.abstract_calls.specs.Functions.{Functions}
+use Rattle.abstract_calls.specs.Definition.{defined}
 
 module _ (f : Functions) (image : List ℕ) (g : Registration) (calls : List ByteCall) where
   -- these bytes are the packet of event n: a call of the run has written them when n was the event closed last
@@ -85,14 +84,9 @@ pub record Shows (f : Functions) (b : List ℕ) (n : ℕ) (d : Display) : Type 0
 
 -- what the three readers return of document 01's follower
 
-abbrev pub stateIn : said.State → State
-stateIn said.lost = State.Lost
-stateIn said.level = State.Level
-stateIn said.waiting = State.Waiting
-
 abbrev pub shownBy : paper.Follower → ℕ
 shownBy (paper.lost floor) = lostNumber
-shownBy (paper.showing n d l) = shownNumber (stateIn (paper.state (paper.showing n d l))) n d
+shownBy (paper.showing n d l) = shownNumber (paper.state (paper.showing n d l)) n d
 
 abbrev pub consumerBy : paper.Follower → ℕ
 consumerBy (paper.lost floor) = consumerNumber OptionAvailableConsumer.None

@@ -7,10 +7,10 @@ use mathlib.Core.Bool.{false}
 use lib.Dec.{eqb}
 use lib.ListN.{length}
 use Rattle.records.specs.Row.{AllBytes}
-use Rattle.calls.specs.Called.{Called}
-use Rattle.calls.specs.Numbers.{doneNumber}
-use Rattle.exported.specs.Calls.{ByteCall, CallBytes, imageAfter, returned, bufferAfter}
-use Rattle.exported.specs.Functions.{Functions, Arguments}
+use Rattle.abstract_calls.specs.Called.{Called}
+use Rattle.abstract_calls.specs.Numbers.{doneNumber}
+use Rattle.abstract_calls.specs.Calls.{ByteCall, CallBytes, imageAfter, returned, bufferAfter}
+use Rattle.abstract_calls.specs.Functions.{Functions, Arguments}
 use Rattle.promise.specs.Promise.{serviceLength, followerLength}
 
 pub data Call : Type 0 where

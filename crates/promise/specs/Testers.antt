@@ -4,12 +4,12 @@ use mathlib.Core.Bool.{cond}
 use mathlib.Core.List.{List, _++_}
 use lib.Dec.{eqb}
 use lib.ListN.{length, drop, getD, set}
+use Rattle.power_policy_interface.specs.declared.psu.Result.{Result}
 use Rattle.display.specs.Providers.{none}
 use Rattle.display.specs.declared.OptionAvailableConsumer.{OptionAvailableConsumer}
-use Rattle.power_policy_interface.specs.declared.psu.Result.{Result}
-use Rattle.calls.specs.Called.{Called, called}
-use Rattle.calls.specs.Numbers.{refusedNumber, closedNumber, lostNumber, consumerNumber, trackedNumber}
-use Rattle.exported.specs.Functions.{Functions}
+use Rattle.abstract_calls.specs.Called.{Called, called}
+use Rattle.abstract_calls.specs.Numbers.{refusedNumber, closedNumber, lostNumber, consumerNumber, trackedNumber}
+use Rattle.abstract_calls.specs.Functions.{Functions}
 use Rattle.exported.specs.Ours.{functions}
 use Rattle.promise.specs.Promise.{Promise}
 

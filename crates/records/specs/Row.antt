@@ -1,6 +1,6 @@
 -- A row of records of one width, read one after the other; none where any is refused.
 use Prim.Native.Nat.{ℕ, zero, suc, _*_, _-_, _<_}
-use mathlib.Core.Bool.{Bool, _&&_, cond}
+use mathlib.Core.Bool.{_&&_, cond}
 use mathlib.Core.List.{List, [], _∷_, _++_}
 use mathlib.Core.Option.{Option, none, some}
 use lib.Dec.{eqb, leb}

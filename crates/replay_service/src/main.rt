@@ -1,18 +1,19 @@
 // Replays runs of the original Rust through the service. They stand on standard input as rust/oracle/src/stream.rs lays them out: each
 // start, event and answer, with what the Rust did. It writes how many events there were, how many outcomes were compared and
 // how many differ, and the first that does.
+use abstract_policy::order::Order;
+use abstract_policy::outcome::Step;
+use abstract_policy::state::InternalState;
+use abstract_policy::state::Records;
+use abstract_policy::state::Registration;
 use display::AvailableConsumer;
 use display::OptionAvailableConsumer;
 use display::providers::Providers;
 use event::memory::DisconnectedNotice;
-use event::memory::InternalState;
 use event::memory::Memory;
 use event::memory::Notices;
 use event::memory::ProviderNotice;
-use event::memory::Records;
-use event::memory::Registration;
 use event::memory::UnconstrainedNotice;
-use event::phase::Order;
 use libc::STDOUT_FILENO;
 use power_policy_interface::psu;
 use power_policy_service::config::Config;
@@ -21,7 +22,6 @@ use power_policy_service::provider::PowerState;
 use records::group::Group;
 use service::Service;
 use service::Started;
-use service::Step;
 use service::Stepped;
 use service::start;
 ghost use Prim.Native.Nat.{_≤_};

@@ -8,15 +8,15 @@ use native.Mathlib.Omega.{arith}
 use lib.Dec.{eqb}
 use lib.ListN.{length, take, drop, length-append}
 use lib.Seq.{sets, length-sets, length-take-le}
+use Rattle.display.specs.declared.State.{State}
 use Rattle.wire.specs.Read.{readPacket}
 use Rattle.wire.specs.declared.packet.ReadPacket.{ReadPacket}
-use Rattle.framing.specs.Framing.{framed}
-use Rattle.framing.specs.declared.Framed.{Framed}
-use Rattle.framing.proofs.Frames.{Told, frame-told}
 use Rattle.follower.specs.Follower as follower
 use Rattle.follower.specs.declared.Follower.{Follower}
 use Rattle.follower.specs.declared.OptionNumber.{OptionNumber}
-use Rattle.follower.specs.declared.State.{State}
+use Rattle.framing.specs.Framing.{framed}
+use Rattle.framing.specs.declared.Framed.{Framed}
+use Rattle.framing.proofs.Frames.{Told, frame-told}
 use Rattle.report.specs.Text.{decimal, number, word, refused}
 use Rattle.report.specs.Line.{lineOf, lineBytes, refusedBytes, spaced}
 use Rattle.report.specs.Desk.{counted, lineRead, lineFor, bytesAt, nextAt, steppedBytes, steppedNext, endBytes}

@@ -13,7 +13,7 @@ use Rattle.framing.specs.declared.Framed.{Framed}
 use Rattle.framing.proofs.Frames.{frame-told, frame-more, refused-more, Unframed, unframed-short}
 use Rattle.report.specs.Text.{header}
 use Rattle.report.specs.Desk.{fresh, takenBy, lineFor, deskAt, bytesAt, nextAt, steppedDesk, steppedBytes, steppedNext, endBytes, refusedAt, afterStep, output, follow}
-use Rattle.report.specs.Reads.{Turn, start, after, afterTake, taking, takeAll, readOn, reads, ended, run}
+use Rattle.report.specs.Reads.{Turn, start, writtenAfter, afterTake, taking, takeAll, readOn, reads, ended, run}
 use Rattle.report.specs.declared.desk.Desk.{Desk}
 
 -- enough turns are enough
@@ -27,7 +27,7 @@ same (suc k) zero d (b ∷ s) p q = absurd (omega arith)
 same (suc k) (suc m) d s p q = found (same k m) (framed s) refl
   where
     found : ((d : Desk) (s : List ℕ) → length s ≤ k → length s ≤ m → taking k d s ≡ taking m d s) → (r : Framed) → framed s ≡ r
-        → after (bytesAt d s r) (afterTake (taking k) (deskAt d s r) s (nextAt r)) ≡ after (bytesAt d s r) (afterTake (taking m) (deskAt d s r) s (nextAt r))
+        → writtenAfter (bytesAt d s r) (afterTake (taking k) (deskAt d s r) s (nextAt r)) ≡ writtenAfter (bytesAt d s r) (afterTake (taking m) (deskAt d s r) s (nextAt r))
     found ih Framed.Empty e = refl
     found ih Framed.Cut e = refl
     found ih (Framed.Refused n) e = refl
@@ -36,16 +36,16 @@ same (suc k) (suc m) d s p q = found (same k m) (framed s) refl
         let l = length-drop (u + n) s in
         let p′ : length (drop (u + n) s) ≤ k = omega (arith, t .least, t .there) in
         let q′ : length (drop (u + n) s) ≤ m = omega (arith, t .least, t .there) in
-        ap (after (lineFor d (take n (drop u s)))) (ih (takenBy d (take n (drop u s))) (drop (u + n) s) p′ q′)
+        ap (writtenAfter (lineFor d (take n (drop u s)))) (ih (takenBy d (take n (drop u s))) (drop (u + n) s) p′ q′)
 
 -- one packet more, or none
-pub take-step : (d : Desk) (s : List ℕ) → takeAll d s ≡ after (steppedBytes d s) (afterTake takeAll (steppedDesk d s) s (steppedNext s))
+pub take-step : (d : Desk) (s : List ℕ) → takeAll d s ≡ writtenAfter (steppedBytes d s) (afterTake takeAll (steppedDesk d s) s (steppedNext s))
 unfolding framed
 take-step d [] = refl
 take-step d (b ∷ s) = found (b ∷ s) refl (framed (b ∷ s)) refl
   where
     found : (v : List ℕ) → length v ≡ suc (length s) → (r : Framed) → framed v ≡ r
-        → after (bytesAt d v r) (afterTake (taking (length s)) (deskAt d v r) v (nextAt r)) ≡ after (bytesAt d v r) (afterTake takeAll (deskAt d v r) v (nextAt r))
+        → writtenAfter (bytesAt d v r) (afterTake (taking (length s)) (deskAt d v r) v (nextAt r)) ≡ writtenAfter (bytesAt d v r) (afterTake takeAll (deskAt d v r) v (nextAt r))
     found v h Framed.Empty e = refl
     found v h Framed.Cut e = refl
     found v h (Framed.Refused n) e = refl
@@ -53,7 +53,7 @@ take-step d (b ∷ s) = found (b ∷ s) refl (framed (b ∷ s)) refl
         let t = frame-told v u n e in
         let l = length-drop (u + n) v in
         let p : length (drop (u + n) v) ≤ length s = omega (arith, t .least, t .there) in
-        ap (after (lineFor d (take n (drop u v)))) (same (length s) (length (drop (u + n) v)) (takenBy d (take n (drop u v))) (drop (u + n) v) p (omega arith))
+        ap (writtenAfter (lineFor d (take n (drop u v)))) (same (length s) (length (drop (u + n) v)) (takenBy d (take n (drop u v))) (drop (u + n) v) p (omega arith))
 
 -- what is kept is shorter than a length and a packet
 kept-in : (k : ℕ) (d : Desk) (s : List ℕ) → length s ≤ k → length (taking k d s .kept) ≤ 68
@@ -73,11 +73,11 @@ kept-in (suc k) d s p = found (kept-in k) (framed s) refl (unframed-short s)
 pub kept-short : (d : Desk) (s : List ℕ) → length (takeAll d s .kept) ≤ 68
 kept-short d s = kept-in (length s) d s (omega arith)
 
-read-after : (w : List ℕ) (r : Turn) (t : List ℕ) → after w (readOn r t) ≡ readOn (after w r) t
+read-after : (w : List ℕ) (r : Turn) (t : List ℕ) → writtenAfter w (readOn r t) ≡ readOn (writtenAfter w r) t
 read-after w r t = tested (r .more)
   where
-    tested : (b : Bool) → after w (cond b (after (r .written) (takeAll (r .desk) (r .kept ++ t))) r)
-        ≡ cond b (after (w ++ r .written) (takeAll (r .desk) (r .kept ++ t))) (after w r)
+    tested : (b : Bool) → writtenAfter w (cond b (writtenAfter (r .written) (takeAll (r .desk) (r .kept ++ t))) r)
+        ≡ cond b (writtenAfter (w ++ r .written) (takeAll (r .desk) (r .kept ++ t))) (writtenAfter w r)
     tested true = rw (append-assoc w (r .written) (takeAll (r .desk) (r .kept ++ t) .written))
     tested false = refl
 
@@ -93,7 +93,7 @@ split (suc k) (suc m) d s t p q = found (split k m) (framed s) refl
   where
     found : ((d : Desk) (s t : List ℕ) → length s ≤ k → length (s ++ t) ≤ m → taking m d (s ++ t) ≡ readOn (taking k d s) t)
         → (r : Framed) → framed s ≡ r
-        → taking (suc m) d (s ++ t) ≡ readOn (after (bytesAt d s r) (afterTake (taking k) (deskAt d s r) s (nextAt r))) t
+        → taking (suc m) d (s ++ t) ≡ readOn (writtenAfter (bytesAt d s r) (afterTake (taking k) (deskAt d s r) s (nextAt r))) t
     found ih Framed.Empty e = same (suc m) (length (s ++ t)) d (s ++ t) q (omega arith)
     found ih Framed.Cut e = same (suc m) (length (s ++ t)) d (s ++ t) q (omega arith)
     found ih (Framed.Refused n) e = rw (refused-more s t n e)
@@ -107,19 +107,19 @@ split (suc k) (suc m) d s t p q = found (split k m) (framed s) refl
         let p′ : length v ≤ k = omega (arith, w .least, w .there) in
         let q′ : length (v ++ t) ≤ m = omega (arith, w .least, w .there, length-append v t, length-append s t) in
         rw (frame-more s t u n e, drop-append-le u s t a, take-append-le n (drop u s) t b, drop-append-le (u + n) s t (w .there))
-        (ap (after (lineFor d x)) (ih (takenBy d x) v t p′ q′) ∙ read-after (lineFor d x) (taking k (takenBy d x) v) t)
+        (ap (writtenAfter (lineFor d x)) (ih (takenBy d x) v t p′ q′) ∙ read-after (lineFor d x) (taking k (takenBy d x) v) t)
 
 -- so two reads are one
 joined : (r : Turn) (s t : List ℕ) → readOn r (s ++ t) ≡ readOn (readOn r s) t
 joined r s t = tested (r .more) refl
   where
-    tested : (b : Bool) → r .more ≡ b → cond b (after (r .written) (takeAll (r .desk) (r .kept ++ (s ++ t)))) r
-        ≡ readOn (cond b (after (r .written) (takeAll (r .desk) (r .kept ++ s))) r) t
+    tested : (b : Bool) → r .more ≡ b → cond b (writtenAfter (r .written) (takeAll (r .desk) (r .kept ++ (s ++ t)))) r
+        ≡ readOn (cond b (writtenAfter (r .written) (takeAll (r .desk) (r .kept ++ s))) r) t
     tested true e =
         let v = r .kept ++ s in
         let w = r .written in
         rw (← append-assoc (r .kept) s t)
-        (ap (after w) (split (length v) (length (v ++ t)) (r .desk) v t (omega arith) (omega arith)) ∙ read-after w (takeAll (r .desk) v) t)
+        (ap (writtenAfter w) (split (length v) (length (v ++ t)) (r .desk) v t (omega arith) (omega arith)) ∙ read-after w (takeAll (r .desk) v) t)
     tested false e = rw e
 
 -- and all reads
@@ -135,7 +135,7 @@ at-once zero d (b ∷ s) p = absurd (omega arith)
 at-once (suc k) d s p = found (at-once k) (framed s) refl
   where
     found : ((d : Desk) (s : List ℕ) → length s ≤ k → ended (taking k d s) ≡ output k d s) → (r : Framed) → framed s ≡ r
-        → ended (after (bytesAt d s r) (afterTake (taking k) (deskAt d s r) s (nextAt r)))
+        → ended (writtenAfter (bytesAt d s r) (afterTake (taking k) (deskAt d s r) s (nextAt r)))
         ≡ bytesAt d s r ++ afterStep (output k) (deskAt d s r) s (nextAt r)
     found ih Framed.Empty e = refl
     found ih Framed.Cut e = refl

@@ -23,8 +23,8 @@ abbrev pub stop : Desk → Turn
 stop d = record { desk = d; kept = []; more = false; written = [] }
 
 -- these bytes were written before
-abbrev pub after : List ℕ → Turn → Turn
-after w t = record { desk = t .desk; kept = t .kept; more = t .more; written = w ++ t .written }
+abbrev pub writtenAfter : List ℕ → Turn → Turn
+writtenAfter w t = record { desk = t .desk; kept = t .kept; more = t .more; written = w ++ t .written }
 
 -- the packets that are whole, at most k; a refused length stops
 
@@ -35,7 +35,7 @@ afterTake more d s Next.Stop = stop d
 
 abbrev pub taking : ℕ → Desk → List ℕ → Turn
 taking zero d s = goOn d s
-taking (suc k) d s = after (steppedBytes d s) (afterTake (taking k) (steppedDesk d s) s (steppedNext s))
+taking (suc k) d s = writtenAfter (steppedBytes d s) (afterTake (taking k) (steppedDesk d s) s (steppedNext s))
 
 -- each takes at least a byte
 abbrev pub takeAll : Desk → List ℕ → Turn
@@ -43,7 +43,7 @@ takeAll d s = taking (length s) d s
 
 -- what a read gives comes after the bytes that are kept
 abbrev pub readOn : Turn → List ℕ → Turn
-readOn t s = cond (t .more) (after (t .written) (takeAll (t .desk) (t .kept ++ s))) t
+readOn t s = cond (t .more) (writtenAfter (t .written) (takeAll (t .desk) (t .kept ++ s))) t
 
 abbrev pub reads : Turn → List (List ℕ) → Turn
 reads t [] = t

@@ -3,8 +3,8 @@ use Prim.Native.Nat.{ℕ, zero, suc, _+_, _/_, _%_}
 use mathlib.Core.Bool.{cond}
 use mathlib.Core.List.{List, [], _∷_, _++_}
 use lib.Dec.{ltb}
+use Rattle.display.specs.declared.State.{State}
 use Rattle.follower.specs.declared.OptionNumber.{OptionNumber}
-use Rattle.follower.specs.declared.State.{State}
 
 -- the last digit, after those of n / 10 where n has more than one; at most k
 abbrev pub digits : ℕ → ℕ → List ℕ

@@ -1,6 +1,6 @@
 // Decimal digits and fixed words, as ASCII bytes written into a lent buffer.
+use display::State;
 use follower::OptionNumber;
-use follower::State;
 ghost use mathlib.Core.Path.{_≡_};
 ghost use mathlib.Core.List.{_∷_};
 ghost use Prim.Native.Nat.{_+_, _≤_};

@@ -9,23 +9,26 @@ use lib.ListN.{length}
 use Rattle.power_policy_interface.specs.Psu.{answerByte}
 use Rattle.power_policy_interface.specs.declared.psu.Result.{Result}
 use Rattle.display.specs.Notices as display
-use Rattle.event.specs.declared.memory.InternalState.{InternalState}
+use Rattle.abstract_policy.specs.Refusals.{firstRefused}
+use Rattle.abstract_policy.specs.Given.{eventOf}
+use Rattle.abstract_policy.specs.Action.{Held, Interaction, done, ask}
+use Rattle.abstract_policy.specs.Fed.{Answers, fedBy, ordersBy}
+use Rattle.abstract_policy.specs.Policy.{Call}
+use Rattle.abstract_policy.specs.declared.state.InternalState.{InternalState}
+use Rattle.abstract_policy.specs.declared.state.Records.{Records}
+use Rattle.abstract_policy.specs.declared.state.Registration.{Registration}
+use Rattle.abstract_policy.proofs.Bound.{event-bound}
 use Rattle.event.specs.declared.memory.Memory.{Memory}
-use Rattle.event.specs.declared.memory.Records.{Records}
-use Rattle.event.specs.declared.memory.Registration.{Registration}
 use Rattle.event.specs.declared.phase.Phase.{Phase}
-use Rattle.send.specs.Send.{noticesOf, answerOf}
-use Rattle.service.specs.Refusals.{firstRefused, openRefusals, answerRefusals}
+use Rattle.service.specs.Refusals.{openRefusals, answerRefusals}
 use Rattle.service.specs.Service as service
-use Rattle.service.specs.Service.{eventOf, openOf, refused}
+use Rattle.service.specs.Service.{openOf, refused}
 use Rattle.service.specs.declared.Service.{Service}
-use Rattle.interaction.specs.Action.{Held, Interaction, done, ask}
+use Rattle.send.specs.Send.{noticesOf, answerByteOf}
 use Rattle.interaction.specs.Machine.{standsAt}
-use Rattle.interaction.specs.Served.{Answers, serviceAfter, fedBy, ordersBy, numbered, Stands, Opens, Registered, eventAt}
-use Rattle.interaction.proofs.Bound.{event-bound}
+use Rattle.interaction.specs.Served.{serviceAfter, numbered, Stands, Opens, Registered, eventAt}
 use Rattle.interaction.proofs.Serves.{follows, counted-bound}
-use Rattle.run.specs.Policy.{Call}
-use Rattle.run.specs.Run.{after, services}
+use Rattle.run.specs.Run.{afterCall, services}
 use Rattle.run.specs.Sized.{CallsFit}
 use Rattle.run.specs.Demands.{Bounded, Packs}
 use Rattle.run.proofs.Matches.{Last, Runs, goes}
@@ -35,7 +38,7 @@ pub runs-registered : (l : List Call) (s : Service) (held : Last) (before : Inte
 runs-registered [] s held before cf x = record { chargers = x .limits .chargers; number = x .number }
 runs-registered (c ∷ l) s held before cf x =
     let t = goes s held before c (cf .0) x in
-    runs-registered l (after s c) (t .heldₜ) (t .beforeₜ) (cf .1) (t .runs)
+    runs-registered l (afterCall s c) (t .heldₜ) (t .beforeₜ) (cf .1) (t .runs)
 
 -- an event that has closed leaves its packet
 
@@ -44,7 +47,7 @@ IsDone a h (done b k) = (b ≡ a) × (k ≡ h)
 IsDone a h (ask o k) = ⊥
 
 packs-at : (g : Registration) (p : Phase) (m : Memory) (a : Result) (h : Held) → IsDone a h (standsAt g p m) →
-    (answerOf p ≡ answerByte a) × (display.listed (noticesOf (m .notices)) ≡ h .notices) × (m .state ≡ h .state)
+    (answerByteOf p ≡ answerByte a) × (display.listed (noticesOf (m .notices)) ≡ h .notices) × (m .state ≡ h .state)
 packs-at g (Phase.Closed b) m a h q = (ap answerByte (q .0), listed-same (m .notices) ∙ ap (λ (x : Held). x .notices) (q .1), ap (λ (x : Held). x .state) (q .1))
 packs-at g (Phase.Leaving i p f) m a h q = absurd q
 packs-at g (Phase.Switching l old f new) m a h q = absurd q

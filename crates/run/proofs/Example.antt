@@ -19,29 +19,30 @@ use Rattle.display.specs.Notices.{empty}
 use Rattle.display.specs.declared.packet.EventPacket.{EventPacket}
 use Rattle.display.specs.declared.packet.Packet.{Packet}
 use Rattle.power_policy_service.specs.Config.{rustDefault, configFrom}
-use Rattle.event.specs.declared.memory.Records.{Records}
+use Rattle.abstract_policy.specs.Interaction as policy
+use Rattle.abstract_policy.specs.Policy.{Call, openEvent, giveAnswer, writePacket, writePicture, started, heldAt, policies}
+use Rattle.abstract_policy.specs.Returns.{pushedAll, packetTo}
+use Rattle.abstract_policy.specs.declared.state.Records.{Records}
+use Rattle.abstract_policy.specs.declared.outcome.SentPacket.{SentPacket}
 use Rattle.service.specs.Service.{freshService, startOf}
 use Rattle.service.specs.declared.Service.{Service}
 use Rattle.service.specs.declared.Started.{Started}
 use Rattle.send.specs.Send.{packetOf, pictureOf}
-use Rattle.send.specs.declared.SentPacket.{SentPacket}
 use Rattle.wire.specs.Bytes.{packetBytes}
 use Rattle.wire.specs.Bytes as bytes
 use Rattle.wire.specs.Number as number
 use Rattle.wire.specs.Packet as wire
 use Rattle.wire.specs.Parser as parser
-use Rattle.follower.specs.Follower as follower
-use Rattle.follower.specs.Held as held
-use Rattle.interaction.specs.Interaction as policy
-use Rattle.follower.specs.Follower.{fresh}
-use Rattle.follower.specs.declared.Shown.{Shown}
 use Rattle.wire.specs.Read.{readPacket}
 use Rattle.wire.specs.declared.packet.ReadPacket.{ReadPacket}
+use Rattle.follower.specs.Follower as follower
+use Rattle.follower.specs.Held as held
+use Rattle.follower.specs.Follower.{fresh}
+use Rattle.follower.specs.declared.Shown.{Shown}
 use Rattle.link.specs.Source.{Source, numberIn}
-use Rattle.link.specs.Takes.{takes, Met, copy, AllHanded, Shows}
+use Rattle.link.specs.Takes.{takesBytes, Met, copy, AllCarried, FollowerShows}
 use Rattle.link.proofs.Lists.{one-packet}
-use Rattle.run.specs.Policy.{Call, openEvent, giveAnswer, writePacket, writePicture, started, heldAt}
-use Rattle.run.specs.Run.{Wrote, pushedAll, packetTo, services, policies}
+use Rattle.run.specs.Run.{HasSent, services}
 use Rattle.run.specs.Sized.{RecordsFit, CallsFit}
 use Rattle.run.specs.Demands.{Demands}
 use Rattle.run.proofs.Linked.{source, run-demand-3, after-start}
@@ -118,20 +119,20 @@ unfolding bytes.capabilityBytes bytes.contractBytes bytes.noticeBytes bytes.even
 bytes-one = refl
 
 -- without errors and with nothing later among them, packet 2 is shown, as it was held
-pub shows-two : takes fresh mixed .shown ≡ Shown.Picture (record { number = 2; display = heldAt (started (start .registration)) four 2 })
+pub shows-two : takesBytes fresh mixed .shown ≡ Shown.Picture (record { number = 2; display = heldAt (started (start .registration)) four 2 })
 unfolding bytes.capabilityBytes bytes.contractBytes bytes.noticeBytes bytes.eventBytes bytes.consumerBytes bytes.portsBytes bytes.pictureBytes number.leb128 number.readNumber parser.field parser.number wire.capability wire.consumer wire.unconstrained wire.consumerDisconnected wire.consumerConnected wire.providerDisconnected wire.providerConnected wire.unconstrainedChanged wire.noticeOf wire.notice wire.eventNotices wire.eventAfter wire.event wire.pictureAfter wire.picture wire.packetOf wire.packet held.noneHeld held.greatest held.above follower.inTurn policy.updateUnconstrainedState policy.attachCharger policy.postConsumerConnected policy.detachCharger policy.disconnectChargers policy.disconnectCurrent policy.connectConsumer policy.connectNewConsumer policy.connectBest policy.updateCurrentConsumer policy.postProviderConnected policy.provide policy.connectProvider policy.removeProvider policy.postProviderRemoved policy.processPsuEvent
 shows-two = refl
 
 -- packet 3 has an error: lost, with 3 as floor; the picture of 3 is shown, and packet 4, which tracks the provider, follows
-pub lost-at-three : takes fresh (mixed ++ (event three ∷ [])) .shown ≡ Shown.Lost 3
+pub lost-at-three : takesBytes fresh (mixed ++ (event three ∷ [])) .shown ≡ Shown.Lost 3
 unfolding bytes.capabilityBytes bytes.contractBytes bytes.noticeBytes bytes.eventBytes bytes.consumerBytes bytes.portsBytes bytes.pictureBytes number.leb128 number.readNumber parser.field parser.number wire.capability wire.consumer wire.unconstrained wire.consumerDisconnected wire.consumerConnected wire.providerDisconnected wire.providerConnected wire.unconstrainedChanged wire.noticeOf wire.notice wire.eventNotices wire.eventAfter wire.event wire.pictureAfter wire.picture wire.packetOf wire.packet held.noneHeld held.greatest held.above follower.inTurn policy.updateUnconstrainedState policy.attachCharger policy.postConsumerConnected policy.detachCharger policy.disconnectChargers policy.disconnectCurrent policy.connectConsumer policy.connectNewConsumer policy.connectBest policy.updateCurrentConsumer policy.postProviderConnected policy.provide policy.connectProvider policy.removeProvider policy.postProviderRemoved policy.processPsuEvent
 lost-at-three = refl
 
-pub recovers : takes fresh (mixed ++ (event three ∷ picture three ∷ [])) .shown ≡ Shown.Picture (record { number = 3; display = heldAt (started (start .registration)) four 3 })
+pub recovers : takesBytes fresh (mixed ++ (event three ∷ picture three ∷ [])) .shown ≡ Shown.Picture (record { number = 3; display = heldAt (started (start .registration)) four 3 })
 unfolding bytes.capabilityBytes bytes.contractBytes bytes.noticeBytes bytes.eventBytes bytes.consumerBytes bytes.portsBytes bytes.pictureBytes number.leb128 number.readNumber parser.field parser.number wire.capability wire.consumer wire.unconstrained wire.consumerDisconnected wire.consumerConnected wire.providerDisconnected wire.providerConnected wire.unconstrainedChanged wire.noticeOf wire.notice wire.eventNotices wire.eventAfter wire.event wire.pictureAfter wire.picture wire.packetOf wire.packet held.noneHeld held.greatest held.above follower.inTurn policy.updateUnconstrainedState policy.attachCharger policy.postConsumerConnected policy.detachCharger policy.disconnectChargers policy.disconnectCurrent policy.connectConsumer policy.connectNewConsumer policy.connectBest policy.updateCurrentConsumer policy.postProviderConnected policy.provide policy.connectProvider policy.removeProvider policy.postProviderRemoved policy.processPsuEvent
 recovers = refl
 
-pub shows-four : takes fresh (mixed ++ (event three ∷ picture three ∷ event four ∷ [])) .shown ≡ Shown.Picture (record { number = 4; display = heldAt (started (start .registration)) four 4 })
+pub shows-four : takesBytes fresh (mixed ++ (event three ∷ picture three ∷ event four ∷ [])) .shown ≡ Shown.Picture (record { number = 4; display = heldAt (started (start .registration)) four 4 })
 unfolding bytes.capabilityBytes bytes.contractBytes bytes.noticeBytes bytes.eventBytes bytes.consumerBytes bytes.portsBytes bytes.pictureBytes number.leb128 number.readNumber parser.field parser.number wire.capability wire.consumer wire.unconstrained wire.consumerDisconnected wire.consumerConnected wire.providerDisconnected wire.providerConnected wire.unconstrainedChanged wire.noticeOf wire.notice wire.eventNotices wire.eventAfter wire.event wire.pictureAfter wire.picture wire.packetOf wire.packet held.noneHeld held.greatest held.above follower.inTurn policy.updateUnconstrainedState policy.attachCharger policy.postConsumerConnected policy.detachCharger policy.disconnectChargers policy.disconnectCurrent policy.connectConsumer policy.connectNewConsumer policy.connectBest policy.updateCurrentConsumer policy.postProviderConnected policy.provide policy.connectProvider policy.removeProvider policy.postProviderRemoved policy.processPsuEvent
 shows-four = refl
 
@@ -215,18 +216,18 @@ calls-fit = (
 )
 
 abbrev writer : Source
-writer = source rustDefault 2 0 (omega arith) (omega arith) (record { unlimited = refl; limited = refl }) calls calls-fit
+writer = source rustDefault 2 0 (omega arith) (omega arith) (record { threshold = omega arith; unlimited = refl; limited = refl; minimum = tt }) calls calls-fit
 
-wrote-start : Wrote start calls (Packet.Picture (pictureOf start))
+wrote-start : HasSent start calls (Packet.Picture (pictureOf start))
 wrote-start = inl (pictureOf start, refl, refl)
 
-wrote-one : Wrote start calls (Packet.Event (packetOf (services start one)))
+wrote-one : HasSent start calls (Packet.Event (packetOf (services start one)))
 wrote-one = inr (inr (inr (inr (inl (packetOf (services start one), refl, refl)))))
 
-wrote-two : Wrote start calls (Packet.Event (packetOf (services start two)))
+wrote-two : HasSent start calls (Packet.Event (packetOf (services start two)))
 wrote-two = inr (inr (inr (inr (inr (inr (inr (inr (inr (inl (packetOf (services start two), refl, refl))))))))))
 
-pub handed : AllHanded writer mixed
+pub handed : AllCarried writer mixed
 handed = (
   copy (Packet.Picture (pictureOf start)) wrote-start refl,
   (
@@ -235,13 +236,13 @@ handed = (
   ),
 )
 
-shows-start : takes fresh (picture [] ∷ []) .shown ≡ Shown.Picture (pictureOf start)
+shows-start : takesBytes fresh (picture [] ∷ []) .shown ≡ Shown.Picture (pictureOf start)
 unfolding bytes.capabilityBytes bytes.contractBytes bytes.noticeBytes bytes.eventBytes bytes.consumerBytes bytes.portsBytes bytes.pictureBytes number.leb128 number.readNumber parser.field parser.number wire.capability wire.consumer wire.unconstrained wire.consumerDisconnected wire.consumerConnected wire.providerDisconnected wire.providerConnected wire.unconstrainedChanged wire.noticeOf wire.notice wire.eventNotices wire.eventAfter wire.event wire.pictureAfter wire.picture wire.packetOf wire.packet held.noneHeld held.greatest held.above follower.inTurn policy.updateUnconstrainedState policy.attachCharger policy.postConsumerConnected policy.detachCharger policy.disconnectChargers policy.disconnectCurrent policy.connectConsumer policy.connectNewConsumer policy.connectBest policy.updateCurrentConsumer policy.postProviderConnected policy.provide policy.connectProvider policy.removeProvider policy.postProviderRemoved policy.processPsuEvent
 shows-start = refl
 
-pub by-theorem : Shows (takes fresh mixed) 2 (writer .held 2)
+pub by-theorem : FollowerShows (takesBytes fresh mixed) 2 (writer .held 2)
 by-theorem =
-    run-demand-3 rustDefault 2 0 (omega arith) (omega arith) (record { unlimited = refl; limited = refl }) calls calls-fit .b (picture [] ∷ []) later 0 2 (pictureOf start .display) handed
+    run-demand-3 rustDefault 2 0 (omega arith) (omega arith) (record { threshold = omega arith; unlimited = refl; limited = refl; minimum = tt }) calls calls-fit .b (picture [] ∷ []) later 0 2 (pictureOf start .display) handed
     shows-start (omega arith) comes nothing-above
 
 -- the packets that the definition says: event 2 has three orders and two notices, event 3 its error, one order and no notice

@@ -3,9 +3,7 @@ pub mod Matches
 pub mod Writer
 pub mod Bounds
 pub mod Returns
-pub mod Orders
 pub mod Rows
 pub mod Starts
-pub mod Chosen
 pub mod Linked
 pub mod Example

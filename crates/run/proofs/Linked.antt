@@ -6,18 +6,18 @@ use mathlib.Core.List.{List}
 use Prim.Native.Nat.{ℕ, _≤_}
 use native.Mathlib.Omega.{arith}
 use Rattle.display.specs.declared.packet.Packet.{Packet}
-use Rattle.event.specs.Memory.{freshState}
-use Rattle.power_policy_service.specs.Config.{configFrom}
+use Rattle.power_policy_service.specs.Config.{configFrom, ConfigFits}
 use Rattle.power_policy_service.specs.declared.config.Config.{Config}
+use Rattle.abstract_policy.specs.State.{freshState}
+use Rattle.abstract_policy.specs.Policy.{Call, started, heldAt, policies}
 use Rattle.service.specs.Service.{freshService, startOf}
 use Rattle.service.specs.declared.Service.{Service}
 use Rattle.service.specs.declared.Started.{Started}
 use Rattle.link.specs.Link.{Demand3}
 use Rattle.link.specs.Source.{Source}
 use Rattle.link.proofs.Demand.{demand-3}
-use Rattle.run.specs.Policy.{Call, started, heldAt}
-use Rattle.run.specs.Run.{Wrote, services, policies}
-use Rattle.run.specs.Sized.{ConfigFits, CallsFit, StartFits}
+use Rattle.run.specs.Run.{HasSent, services}
+use Rattle.run.specs.Sized.{CallsFit, StartFits}
 use Rattle.run.specs.Demands.{Bounded, Equal, OnLink, Demands}
 use Rattle.run.proofs.Matches.{Runs, firstLast}
 use Rattle.run.proofs.Bounds.{run-bounded}
@@ -52,7 +52,7 @@ module _ (config : Config) (ports chargers : ℕ) (ports-few : ports ≤ 16) (ch
     held = heldAt (started (start .registration)) calls;
     Closed = λ n. n ≤ policies (started (start .registration)) calls .number;
     closed = λ p w. wrote-closed calls start firstLast freshState p calls-fit fresh-runs w;
-    Written = Wrote start calls;
+    Written = HasSent start calls;
     fits = λ p w. wrote-fits calls start firstLast freshState p calls-fit fresh-runs w;
     picture = λ v w.
         wrote-tells (heldAt (started (start .registration)) calls) calls start firstLast freshState (Packet.Picture v) calls-fit fresh-runs (λ n l. refl) (λ n e. absurd (omega (arith, e))) w;

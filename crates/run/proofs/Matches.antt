@@ -10,38 +10,40 @@ use borrow.Author.Tests.{le-leb, leb-false, eqb-true, eqb-false}
 use Rattle.power_policy_interface.specs.declared.psu.Result.{Result}
 use Rattle.power_policy_interface.specs.declared.service.event.Event.{Event}
 use Rattle.display.specs.Notices.{appliedAll}
-use Rattle.event.specs.Memory.{noNotices, freshState}
+use Rattle.power_policy_service.specs.Config.{ConfigFits}
+use Rattle.abstract_policy.specs.State.{freshState, displayOf}
+use Rattle.abstract_policy.specs.Refusals.{firstRefused, openConditions, notRegistered, unknownEvent, numbersUsed, noAnswer}
+use Rattle.abstract_policy.specs.Given.{resultOf, eventOf}
+use Rattle.abstract_policy.specs.Action.{Held, Interaction, done, ask}
+use Rattle.abstract_policy.specs.Ends.{Leads, Carries, AtMost}
+use Rattle.abstract_policy.specs.Interaction.{close, event}
+use Rattle.abstract_policy.specs.Policy.{Call, openEvent, giveAnswer, writePacket, writePicture, between, Policy, proceeds, isAt, answers, policyAfter}
+use Rattle.abstract_policy.specs.declared.state.InternalState.{InternalState}
+use Rattle.abstract_policy.specs.declared.state.Records.{Records}
+use Rattle.abstract_policy.specs.declared.state.Registration.{Registration}
+use Rattle.abstract_policy.specs.declared.order.OptionOrder.{OptionOrder}
+use Rattle.abstract_policy.specs.declared.order.Order.{Order}
+use Rattle.abstract_policy.specs.declared.outcome.Step.{Step}
+use Rattle.abstract_policy.proofs.Bound.{event-bound}
+use Rattle.abstract_policy.proofs.Carries.{event-carries}
+use Rattle.abstract_policy.proofs.Logic.{ends-ok}
+use Rattle.event.specs.Memory.{noNotices}
 use Rattle.event.specs.Phase.{orderOf, outcomeOf, switchOrder, connectOrder}
-use Rattle.event.specs.declared.memory.InternalState.{InternalState}
 use Rattle.event.specs.declared.memory.Memory.{Memory}
-use Rattle.event.specs.declared.memory.Records.{Records}
-use Rattle.event.specs.declared.memory.Registration.{Registration}
-use Rattle.event.specs.declared.phase.OptionOrder.{OptionOrder}
-use Rattle.event.specs.declared.phase.Order.{Order}
 use Rattle.event.specs.declared.phase.Phase.{Phase}
 use Rattle.event.specs.declared.phase.Turn.{Turn}
 use Rattle.update.specs.Update.{remember}
 use Rattle.process.specs.Process.{answeredOf, processOf}
-use Rattle.service.specs.Refusals.{firstRefused, openConditions, notRegistered, unknownEvent, numbersUsed, isOpen}
-use Rattle.service.specs.Service.{stepped, moved, resultOf, answerOf, eventOf, openedOf, openOf, refused}
+use Rattle.service.specs.Refusals.{isOpen}
+use Rattle.service.specs.Service.{stepped, moved, answerOf, openedOf, openOf, refused}
 use Rattle.service.specs.declared.Service.{Service}
-use Rattle.service.specs.declared.Step.{Step}
-use Rattle.interaction.specs.Action.{Held, Interaction, done, ask}
-use Rattle.send.specs.Send.{displayOf}
-use Rattle.interaction.specs.Carried.{Leads, Carries}
-use Rattle.interaction.specs.Interaction.{close, event}
 use Rattle.interaction.specs.Machine.{heldOf, listed, rest, standsAt, standsFor, Fits}
-use Rattle.interaction.specs.Served.{AtMost, noAnswer}
-use Rattle.interaction.proofs.Bound.{event-bound}
-use Rattle.interaction.proofs.Carries.{event-carries}
 use Rattle.interaction.proofs.Follows.{opened, leaving-answered, switching-answered, connecting-answered, providing-answered}
 use Rattle.interaction.proofs.Kept.{FitsTurn, opened-fits, answered-fits}
-use Rattle.interaction.proofs.Logic.{ends-ok}
 use Rattle.interaction.proofs.Serves.{service, serviceAt, closed-answer, open-answer, moved-to, last-not-refused, below}
-use Rattle.run.specs.Policy.{Call, openEvent, giveAnswer, writePacket, writePicture, between, Policy, proceeds, isAt, answers, policyAfter}
-use Rattle.run.specs.Run.{after}
+use Rattle.run.specs.Run.{afterCall}
 use Rattle.run.specs.Demands.{standOf}
-use Rattle.run.specs.Sized.{RecordsFit, ConfigFits, CallFits}
+use Rattle.run.specs.Sized.{RecordsFit, CallFits}
 use Rattle.run.proofs.Sized.{StateFits, HeldFits, Sized, event-sized}
 
 -- what the event closed last has left
@@ -348,7 +350,7 @@ module _ (g : Registration) (number k : ℕ) (kind device detail : ℕ) (r : Rec
 -- every call
 
 goes-at : (g : Registration) (number k : ℕ) (p : Phase) (m : Memory) (held : Last) (before : InternalState) (c : Call) → CallFits c → Runs (service g number k p m) held before →
-    Went (service g number k p m) held before c (after (service g number k p m) c)
+    Went (service g number k p m) held before c (afterCall (service g number k p m) c)
 goes-at g number k p m held before writePacket cf x = stayed (service g number k p m) held before writePacket x refl
 goes-at g number k p m held before writePicture cf x = stayed (service g number k p m) held before writePicture x refl
 goes-at g number k (Phase.Closed a) m held before (giveAnswer n r) cf x =
@@ -377,5 +379,5 @@ goes-at g number k (Phase.Connecting s new) m held before (openEvent kind device
 goes-at g number k (Phase.Providing p c) m held before (openEvent kind device detail r) cf x =
     open-open g number k kind device detail r (Phase.Providing p c) m held before refl x
 
-pub goes : (s : Service) (held : Last) (before : InternalState) (c : Call) → CallFits c → Runs s held before → Went s held before c (after s c)
+pub goes : (s : Service) (held : Last) (before : InternalState) (c : Call) → CallFits c → Runs s held before → Went s held before c (afterCall s c)
 goes s held before c cf x = goes-at (s .registration) (s .number) (s .orders) (s .phase) (s .memory) held before c cf x

@@ -13,38 +13,41 @@ use Rattle.display.specs.Notices.{empty, pushed}
 use Rattle.display.specs.declared.OptionAvailableConsumer.{OptionAvailableConsumer}
 use Rattle.display.specs.declared.notices.Notices as display
 use Rattle.display.specs.declared.packet.EventPacket.{EventPacket}
+use Rattle.abstract_policy.specs.Refusals.{firstRefused, openConditions, notRegistered, unknownEvent, numbersUsed, unknownAnswer, packetConditions, noAnswer}
+use Rattle.abstract_policy.specs.Given.{resultOf, eventOf}
+use Rattle.abstract_policy.specs.State.{displayOf}
+use Rattle.abstract_policy.specs.Action.{ask}
+use Rattle.abstract_policy.specs.Interaction.{close, event}
+use Rattle.abstract_policy.specs.Returns.{brings, openTo, answerTo, pushedAll, packetTo, pictureTo}
+use Rattle.abstract_policy.specs.Policy.{Call, Stand, between, orderAt, isAt, policies}
+use Rattle.abstract_policy.specs.declared.state.InternalState.{InternalState}
+use Rattle.abstract_policy.specs.declared.state.Records.{Records}
+use Rattle.abstract_policy.specs.declared.state.Registration.{Registration}
+use Rattle.abstract_policy.specs.declared.order.OptionOrder.{OptionOrder}
+use Rattle.abstract_policy.specs.declared.order.Order.{Order}
+use Rattle.abstract_policy.specs.declared.outcome.Step.{Step}
+use Rattle.abstract_policy.specs.declared.outcome.SentPacket.{SentPacket}
+use Rattle.abstract_policy.specs.declared.outcome.SentPicture.{SentPicture}
 use Rattle.event.specs.Memory.{noNotices}
 use Rattle.event.specs.Phase.{orderOf, switchOrder, connectOrder}
 use Rattle.event.specs.declared.memory.DisconnectedNotice.{DisconnectedNotice}
-use Rattle.event.specs.declared.memory.InternalState.{InternalState}
 use Rattle.event.specs.declared.memory.Memory.{Memory}
 use Rattle.event.specs.declared.memory.Notices.{Notices}
 use Rattle.event.specs.declared.memory.ProviderNotice.{ProviderNotice}
-use Rattle.event.specs.declared.memory.Records.{Records}
-use Rattle.event.specs.declared.memory.Registration.{Registration}
 use Rattle.event.specs.declared.memory.UnconstrainedNotice.{UnconstrainedNotice}
-use Rattle.event.specs.declared.phase.OptionOrder.{OptionOrder}
-use Rattle.event.specs.declared.phase.Order.{Order}
 use Rattle.event.specs.declared.phase.Phase.{Phase}
 use Rattle.event.specs.declared.phase.Turn.{Turn}
-use Rattle.process.specs.Process.{answeredOf, processOf}
 use Rattle.update.specs.Update.{remember}
-use Rattle.service.specs.Refusals.{firstRefused, openConditions, notRegistered, unknownEvent, numbersUsed, unknownAnswer, isOpen}
-use Rattle.service.specs.Service.{answerIn, stepped, moved, resultOf, answerOf, eventOf, openedOf, openOf, refused}
+use Rattle.process.specs.Process.{answeredOf, processOf}
+use Rattle.service.specs.Refusals.{isOpen}
+use Rattle.service.specs.Service.{answerIn, stepped, moved, answerOf, openedOf, openOf, refused}
 use Rattle.service.specs.declared.Service.{Service}
-use Rattle.service.specs.declared.Step.{Step}
 use Rattle.service.specs.declared.Stepped.{Stepped}
-use Rattle.send.specs.Send.{displayOf, pushProvider, pushDisconnected, pushConnected, pushUnconstrained, noticesOf, packetConditions, sendPacket, sendPicture}
-use Rattle.send.specs.declared.SentPacket.{SentPacket}
-use Rattle.send.specs.declared.SentPicture.{SentPicture}
-use Rattle.interaction.specs.Action.{ask}
-use Rattle.interaction.specs.Interaction.{close, event}
+use Rattle.send.specs.Send.{pushProvider, pushDisconnected, pushConnected, pushUnconstrained, noticesOf, sendPacket, sendPicture}
 use Rattle.interaction.specs.Machine.{ofProvider, ofDisconnected, ofConnected, ofUnconstrained, heldOf, listed, rest, standsAt, standsFor}
-use Rattle.interaction.specs.Served.{noAnswer, brings}
 use Rattle.interaction.proofs.Follows.{opened, leaving-answered, switching-answered, connecting-answered, providing-answered}
 use Rattle.interaction.proofs.Serves.{service, moved-brings}
-use Rattle.run.specs.Policy.{Call, Stand, between, orderAt, isAt}
-use Rattle.run.specs.Run.{after, openTo, answerTo, pushedAll, packetTo, pictureTo, services, policies}
+use Rattle.run.specs.Run.{afterCall, services}
 use Rattle.run.specs.Sized.{CallsFit}
 use Rattle.run.specs.Demands.{standOf, Equal}
 use Rattle.run.proofs.Matches.{Last, lastOf, policyOf, open-is, Closed, StateAt, Runs, goes}
@@ -224,4 +227,4 @@ run-equal [] s held before cf x = record {
     is-closed e = sym (open-is (s .orders) (s .registration) (s .phase) (s .memory)) ∙ ap isAt e
 run-equal (c ∷ l) s held before cf x =
     let t = goes s held before c (cf .0) x in
-    subst (λ z. Equal (services (after s c) l) (policies z l)) (sym (t .same)) (run-equal l (after s c) (t .heldₜ) (t .beforeₜ) (cf .1) (t .runs))
+    subst (λ z. Equal (services (afterCall s c) l) (policies z l)) (sym (t .same)) (run-equal l (afterCall s c) (t .heldₜ) (t .beforeₜ) (cf .1) (t .runs))

@@ -11,7 +11,7 @@ use lib.ListN.{length, getD, take, drop, replicate, length-take, List·getD-eq-d
 use lib.Seq.{getD-drop, getD-take}
 use borrow.Author.Tests.{le-leb, ltb-true, ltb-false}
 use Rattle.power_policy_interface.specs.Psu.{defaultState}
-use Rattle.power_policy_interface.specs.Capability.{consumerFlagsFrom, providerFlagsFrom}
+use Rattle.power_policy_interface.specs.Capability.{consumerFlagsFrom, providerFlagsFrom, capabilityFits}
 use Rattle.power_policy_interface.specs.declared.capability.OptionConsumerFlags.{OptionConsumerFlags}
 use Rattle.power_policy_interface.specs.declared.capability.OptionConsumerPowerCapability.{OptionConsumerPowerCapability}
 use Rattle.power_policy_interface.specs.declared.capability.OptionProviderFlags.{OptionProviderFlags}
@@ -29,7 +29,6 @@ use Rattle.records.specs.declared.psu.ReadPsuState.{ReadPsuState}
 use Rattle.records.proofs.Groups.{Bytes}
 use Rattle.records.proofs.OneRecord.{group-bytes}
 use Rattle.power_policy_service.specs.Rows.{psuAt}
-use Rattle.wire.specs.WellFormed.{capabilityFits}
 use Rattle.run.specs.Sized.{OfferFits, RequestFits, PsuFits, RecordsFit}
 use Rattle.run.proofs.Sized.{both}
 

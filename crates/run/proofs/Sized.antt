@@ -9,7 +9,7 @@ use lib.Dec.{leb, ltb}
 use borrow.Author.Tests.{le-leb, ltb-true}
 use Rattle.power_policy_interface.specs.Psu.{canConnectConsumerOf, canConnectProviderOf}
 use Rattle.power_policy_interface.specs.Service.{sameUnconstrained}
-use Rattle.power_policy_interface.specs.Capability.{maxPowerMw}
+use Rattle.power_policy_interface.specs.Capability.{maxPowerMw, capabilityFits}
 use Rattle.power_policy_interface.specs.declared.capability.ConsumerPowerCapability.{ConsumerPowerCapability}
 use Rattle.power_policy_interface.specs.declared.capability.DisconnectFlags.{DisconnectFlags}
 use Rattle.power_policy_interface.specs.declared.capability.OptionConsumerPowerCapability.{OptionConsumerPowerCapability}
@@ -22,28 +22,27 @@ use Rattle.display.specs.Providers.{insertOf, removeOf}
 use Rattle.display.specs.declared.AvailableConsumer.{AvailableConsumer}
 use Rattle.display.specs.declared.OptionAvailableConsumer.{OptionAvailableConsumer}
 use Rattle.display.specs.declared.providers.Providers.{Providers}
+use Rattle.display.proofs.Tracked.{Tracks, insert-tracks, remove-tracks}
 use Rattle.power_policy_service.specs.Choice.{Chosen}
 use Rattle.power_policy_service.specs.Consumer.{bestOf, offered, meets}
 use Rattle.power_policy_service.specs.Provider.{totalOf, totalWith, powerStateOf, grantOf}
-use Rattle.power_policy_service.specs.Rows.{psuAt}
+use Rattle.power_policy_service.specs.Rows.{psuAt, noPsu}
+use Rattle.power_policy_service.specs.Config.{ConfigFits}
 use Rattle.power_policy_service.specs.declared.config.Config.{Config}
 use Rattle.power_policy_service.specs.declared.config.OptionMilliwatts.{OptionMilliwatts}
 use Rattle.power_policy_service.specs.declared.provider.PowerState.{PowerState}
 use Rattle.power_policy_service.proofs.Choice.{chosen}
 use Rattle.power_policy_service.proofs.Greatest.{not-both, one-offer}
-use Rattle.event.specs.Memory.{withConsumer, withUnconstrained, withProviders, withPowerState, psuOf, noPsu, chargerUnpowered}
-use Rattle.event.specs.declared.memory.InternalState.{InternalState}
-use Rattle.event.specs.declared.memory.Records.{Records}
-use Rattle.event.specs.declared.memory.Registration.{Registration}
-use Rattle.event.specs.declared.phase.Order.{Order}
-use Rattle.process.specs.Process.{noReason, detachedReason}
-use Rattle.update.specs.Update.{reasonOf, unconstrainedOf, availableOf, offersUnconstrained, counted, sameAvailable, isConnectedConsumer}
-use Rattle.wire.specs.WellFormed.{capabilityFits, contractFits, noticeFits, noticesFit, consumerFits}
+use Rattle.abstract_policy.specs.State.{withConsumer, withUnconstrained, withProviders, withPowerState, psuOf, chargerUnpowered}
+use Rattle.abstract_policy.specs.Interaction.{noReason, detachedReason, reasonOf, unconstrainedOf, availableOf, offersUnconstrained, counted, sameAvailable, isConnectedConsumer, updateUnconstrainedState, attachCharger, postConsumerConnected, detachCharger, disconnectChargers, disconnectCurrent, connectConsumer, connectNewConsumer, connectBest, findBestConsumer, updateCurrentConsumer, postProviderConnected, provide, connectProvider, removeProvider, postProviderRemoved, processPsuEvent, close, event}
+use Rattle.abstract_policy.specs.Action.{Held, Interaction, done, ask, Action, _>>=_, _>>_, skip, records, set, notify, await, ok, chargerOk, charger, psu, when, unless, each}
+use Rattle.abstract_policy.specs.declared.state.InternalState.{InternalState}
+use Rattle.abstract_policy.specs.declared.state.Records.{Records}
+use Rattle.abstract_policy.specs.declared.state.Registration.{Registration}
+use Rattle.abstract_policy.specs.declared.order.Order.{Order}
+use Rattle.wire.specs.WellFormed.{contractFits, noticeFits, noticesFit, consumerFits}
 use Rattle.wire.proofs.ReadWrite.{and-left, and-right}
-use Rattle.interaction.specs.Action.{Held, Interaction, done, ask, Action, _>>=_, _>>_, skip, records, set, notify, await, ok, chargerOk, charger, psu, when, unless, each}
-use Rattle.interaction.specs.Interaction.{updateUnconstrainedState, attachCharger, postConsumerConnected, detachCharger, disconnectChargers, disconnectCurrent, connectConsumer, connectNewConsumer, connectBest, findBestConsumer, updateCurrentConsumer, postProviderConnected, provide, connectProvider, removeProvider, postProviderRemoved, processPsuEvent, close, event}
-use Rattle.run.specs.Sized.{OfferFits, RequestFits, PsuFits, RecordsFit, ConfigFits}
-use Rattle.display.proofs.Tracked.{Tracks, insert-tracks, remove-tracks}
+use Rattle.run.specs.Sized.{OfferFits, RequestFits, PsuFits, RecordsFit}
 
 -- what is held and told
 

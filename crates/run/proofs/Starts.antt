@@ -4,25 +4,22 @@ use mathlib.Core.Bool.{Bool, true, false, cond, _&&_, _||_}
 use Prim.Native.Nat.{ℕ, _≤_}
 use lib.Dec.{leb, ltb, eqb}
 use borrow.Author.Tests.{leb-true, ltb-false}
+use Rattle.power_policy_interface.specs.Capability.{capabilityFits}
 use Rattle.power_policy_interface.specs.declared.capability.PowerCapability.{PowerCapability}
-use Rattle.power_policy_service.specs.Config.{minimumFrom, configWith, configFrom}
+use Rattle.power_policy_service.specs.Config.{minimumFrom, configWith, configFrom, ConfigFits, MinimumFits}
 use Rattle.power_policy_service.specs.declared.config.Config.{Config}
 use Rattle.power_policy_service.specs.declared.config.OptionConfig.{OptionConfig}
 use Rattle.power_policy_service.specs.declared.config.OptionMilliwatts.{OptionMilliwatts}
 use Rattle.power_policy_service.specs.declared.config.ReadMinimum.{ReadMinimum}
-use Rattle.service.specs.Refusals.{overType}
-use Rattle.service.specs.Service.{startWith, startOf}
+use Rattle.abstract_policy.specs.Refusals.{overType}
+use Rattle.abstract_policy.specs.Chosen.{Choices}
+use Rattle.abstract_policy.proofs.Chosen.{run-chooses}
+use Rattle.service.specs.Service.{startWith, startOf, freshService}
 use Rattle.service.specs.declared.Service.{Service}
 use Rattle.service.specs.declared.Started.{Started}
-use Rattle.wire.specs.WellFormed.{capabilityFits}
-use Rattle.run.specs.Sized.{ConfigFits, MinimumFits, StartFits}
+use Rattle.run.specs.Sized.{StartFits}
 
 -- the configuration
-
-pub record FiguresFit (c : Config) : Type 0 where
-  pub figures : ConfigFits c
-  pub threshold : c .«limited_power_threshold_mw» ≤ 4294967295
-  pub minimum : MinimumFits (c .«min_consumer_threshold_mw»)
 
 abbrev ReadFits : ReadMinimum → Type 0
 ReadFits ReadMinimum.Refused = Unit {0}
@@ -40,11 +37,11 @@ minimum-fits presence minimum = go (eqb presence 0) (leb presence 1) (leb minimu
 
 abbrev OptionFits : OptionConfig → Type 0
 OptionFits OptionConfig.None = Unit {0}
-OptionFits (OptionConfig.Some c) = FiguresFit c
+OptionFits (OptionConfig.Some c) = ConfigFits c
 
 with-fits : (t : ℕ) (u l : PowerCapability) (m : ReadMinimum) → t ≤ 4294967295 → capabilityFits u ≡ true → capabilityFits l ≡ true → ReadFits m → OptionFits (configWith t u l m)
 with-fits t u l ReadMinimum.Refused a b c d = tt
-with-fits t u l (ReadMinimum.Read m) a b c d = record { figures = record { unlimited = b; limited = c }; threshold = a; minimum = d }
+with-fits t u l (ReadMinimum.Read m) a b c d = record { threshold = a; unlimited = b; limited = c; minimum = d }
 
 config-fits : (t uv ua lv la presence minimum : ℕ) → OptionFits (configFrom t uv ua lv la presence minimum)
 config-fits t uv ua lv la presence minimum = go (leb t 4294967295) refl (leb uv 65535) refl (leb ua 65535) refl (leb lv 65535) refl (leb la 65535) refl
@@ -80,9 +77,7 @@ module _ (ports chargers : ℕ) (s : Service) where
     fresh = sym e;
     few-ports = ltb-false 16 ports ex;
     few-chargers = ltb-false 8 chargers ey;
-    figures = f .figures;
-    threshold = f .threshold;
-    minimum = f .minimum;
+    figures = f;
   }
   accepted (OptionConfig.Some c) f false ex true ey e = absurd e
   accepted (OptionConfig.Some c) f true ex y ey e = absurd e
@@ -95,3 +90,11 @@ pub start-fits : (threshold unlimited-mv unlimited-ma limited-mv limited-ma pres
 start-fits t uv ua lv la presence minimum ports chargers s e =
     accepted ports chargers s (configFrom t uv ua lv la presence minimum) (config-fits t uv ua lv la presence minimum) (ltb 16 ports) refl (ltb 8 chargers) refl
     (subst (ServiceIs s) (sym e) refl)
+
+-- after every start that is accepted, what is chosen is demand 2's
+pub start-chooses : (threshold unlimited-mv unlimited-ma limited-mv limited-ma presence minimum ports chargers : ℕ) (s : Service) →
+    startOf (configFrom threshold unlimited-mv unlimited-ma limited-mv limited-ma presence minimum) ports chargers ≡ Started.Service s →
+    Choices (s .registration)
+start-chooses threshold unlimited-mv unlimited-ma limited-mv limited-ma presence minimum ports chargers s e =
+    let f : StartFits ports chargers s = start-fits threshold unlimited-mv unlimited-ma limited-mv limited-ma presence minimum ports chargers s e in
+    subst (λ (x : Service). Choices (x .registration)) (sym (f .fresh)) (run-chooses (freshService (f .config) ports chargers .registration) (f .few-ports))

@@ -19,26 +19,27 @@ use Rattle.display.specs.declared.OptionAvailableConsumer.{OptionAvailableConsu
 use Rattle.display.specs.declared.packet.EventPacket.{EventPacket}
 use Rattle.display.specs.declared.packet.Packet.{Packet}
 use Rattle.display.specs.declared.packet.Picture.{Picture}
+use Rattle.abstract_policy.specs.State.{displayOf}
+use Rattle.abstract_policy.specs.Policy.{Call, openEvent, giveAnswer, writePacket, writePicture, Policy, policyAfter, heldAt, policies}
+use Rattle.abstract_policy.specs.declared.state.InternalState.{InternalState}
+use Rattle.abstract_policy.specs.declared.state.Registration.{Registration}
+use Rattle.abstract_policy.specs.declared.outcome.SentPacket.{SentPacket}
+use Rattle.abstract_policy.specs.declared.outcome.SentPicture.{SentPicture}
 use Rattle.event.specs.Memory.{noticesWith}
 use Rattle.event.specs.declared.memory.DisconnectedNotice.{DisconnectedNotice}
-use Rattle.event.specs.declared.memory.InternalState.{InternalState}
 use Rattle.event.specs.declared.memory.Memory.{Memory}
 use Rattle.event.specs.declared.memory.Notices.{Notices}
 use Rattle.event.specs.declared.memory.ProviderNotice.{ProviderNotice}
-use Rattle.event.specs.declared.memory.Registration.{Registration}
 use Rattle.event.specs.declared.memory.UnconstrainedNotice.{UnconstrainedNotice}
 use Rattle.event.specs.declared.phase.Phase.{Phase}
-use Rattle.send.specs.Send.{displayOf, noticesOf, packetOf, pictureOf, sendPacket, sendPicture}
-use Rattle.send.specs.declared.SentPacket.{SentPacket}
-use Rattle.send.specs.declared.SentPicture.{SentPicture}
 use Rattle.service.specs.Refusals.{isOpen}
 use Rattle.service.specs.declared.Service.{Service}
-use Rattle.wire.specs.WellFormed.{noticesFit, consumerFits, eventFits, pictureFits, wellFormed}
+use Rattle.send.specs.Send.{noticesOf, packetOf, pictureOf, sendPacket, sendPicture}
 use Rattle.interaction.specs.Machine.{listed}
 use Rattle.interaction.proofs.Serves.{service}
-use Rattle.run.specs.Policy.{Call, openEvent, giveAnswer, writePacket, writePicture, Policy, policyAfter, heldAt}
+use Rattle.wire.specs.WellFormed.{noticesFit, consumerFits, eventFits, pictureFits, wellFormed}
 use Rattle.link.specs.Source.{numberIn}
-use Rattle.run.specs.Run.{after, Writes, Wrote, policies}
+use Rattle.run.specs.Run.{afterCall, Sends, HasSent}
 use Rattle.run.specs.Sized.{CallsFit}
 use Rattle.run.proofs.Sized.{both}
 use Rattle.run.proofs.Matches.{Last, policyOf, Closed, StateAt, Runs, Moved, stays, asks, closes, goes}
@@ -199,7 +200,7 @@ module _ (H : ℕ → Display) where
   packet-at g number k (Phase.Connecting s new) m held before c o h b = not-open o
   packet-at g number k (Phase.Providing p d) m held before c o h b = not-open o
 
-  writes-tells : (s : Service) (held : Last) (before : InternalState) (c : Call) (p : Packet) → Runs s held before → H (s .number) ≡ displayOf (held .state) → Before s before → Writes s c p → Tells p
+  writes-tells : (s : Service) (held : Last) (before : InternalState) (c : Call) (p : Packet) → Runs s held before → H (s .number) ≡ displayOf (held .state) → Before s before → Sends s c p → Tells p
   writes-tells s held before (openEvent kind device detail r) p x h b w = absurd w
   writes-tells s held before (giveAnswer a r) p x h b w = absurd w
   writes-tells s held before writePacket p x h b w =
@@ -209,23 +210,23 @@ module _ (H : ℕ → Display) where
       let q = shown s (w .0) (w .1) in
       subst Tells (sym (w .2 ∙ ap Packet.Picture (q .1))) (picture-at (s .registration) (s .number) (s .orders) (s .phase) (s .memory) held before (x .state) (q .0) h)
 
-  pub wrote-tells : (l : List Call) (s : Service) (held : Last) (before : InternalState) (p : Packet) → CallsFit l → Runs s held before → Agrees (policyOf s held) l → Before s before → Wrote s l p → Tells p
+  pub wrote-tells : (l : List Call) (s : Service) (held : Last) (before : InternalState) (p : Packet) → CallsFit l → Runs s held before → Agrees (policyOf s held) l → Before s before → HasSent s l p → Tells p
   wrote-tells (c ∷ l) s held before p cf x a b w =
       ⊎-elim (λ z. writes-tells s held before c p x (now (policyOf s held) (c ∷ l) a) b z)
       (λ z.
       let t = goes s held before c (cf .0) x in
-      wrote-tells l (after s c) (t .heldₜ) (t .beforeₜ) p (cf .1) (t .runs)
-      (later (policyOf s held) c l (policyOf (after s c) (t .heldₜ)) (t .same)
-      (moved-number s (after s c) held (t .heldₜ) before (t .beforeₜ) (t .moves))
-      (moved-held s (after s c) held (t .heldₜ) before (t .beforeₜ) (t .moves)) a)
-      (before-on s (after s c) held (t .heldₜ) before (t .beforeₜ) (t .moves) (now (policyOf s held) (c ∷ l) a) b) z)
+      wrote-tells l (afterCall s c) (t .heldₜ) (t .beforeₜ) p (cf .1) (t .runs)
+      (later (policyOf s held) c l (policyOf (afterCall s c) (t .heldₜ)) (t .same)
+      (moved-number s (afterCall s c) held (t .heldₜ) before (t .beforeₜ) (t .moves))
+      (moved-held s (afterCall s c) held (t .heldₜ) before (t .beforeₜ) (t .moves)) a)
+      (before-on s (afterCall s c) held (t .heldₜ) before (t .beforeₜ) (t .moves) (now (policyOf s held) (c ∷ l) a) b) z)
       w
 
 -- an event has one packet
 
 abbrev pub packetFor : Service → List Call → ℕ → EventPacket
 packetFor s [] n = packetOf s
-packetFor s (c ∷ l) n = cond (not (isOpen (s .phase)) && eqb n (s .number)) (packetOf s) (packetFor (after s c) l n)
+packetFor s (c ∷ l) n = cond (not (isOpen (s .phase)) && eqb n (s .number)) (packetOf s) (packetFor (afterCall s c) l n)
 
 now-packet : (s : Service) (l : List Call) → isOpen (s .phase) ≡ false → packetFor s l (s .number) ≡ packetOf s
 now-packet s [] o = refl
@@ -238,21 +239,21 @@ module _ (K : ℕ → EventPacket) where
   abbrev Keeps : Service → List Call → Type 0
   Keeps s l = (n : ℕ) → Ahead s n → K n ≡ packetFor s l n
 
-  skip : (s : Service) (c : Call) (l : List Call) (n : ℕ) → (n ≡ s .number → ⊥) → packetFor s (c ∷ l) n ≡ packetFor (after s c) l n
+  skip : (s : Service) (c : Call) (l : List Call) (n : ℕ) → (n ≡ s .number → ⊥) → packetFor s (c ∷ l) n ≡ packetFor (afterCall s c) l n
   skip s c l n d = rw (ne-eqb n (s .number) d) (go (not (isOpen (s .phase))))
     where
-      go : (b : Bool) → cond (b && false) (packetOf s) (packetFor (after s c) l n) ≡ packetFor (after s c) l n
+      go : (b : Bool) → cond (b && false) (packetOf s) (packetFor (afterCall s c) l n) ≡ packetFor (afterCall s c) l n
       go true = refl
       go false = refl
 
-  still : (s : Service) (c : Call) (l : List Call) (n : ℕ) → after s c ≡ s → (b : Bool) → isOpen (s .phase) ≡ b → (d : Bool) → eqb n (s .number) ≡ d →
-      cond (not b && d) (packetOf s) (packetFor (after s c) l n) ≡ packetFor (after s c) l n
+  still : (s : Service) (c : Call) (l : List Call) (n : ℕ) → afterCall s c ≡ s → (b : Bool) → isOpen (s .phase) ≡ b → (d : Bool) → eqb n (s .number) ≡ d →
+      cond (not b && d) (packetOf s) (packetFor (afterCall s c) l n) ≡ packetFor (afterCall s c) l n
   still s c l n e true eb d ed = refl
   still s c l n e false eb false ed = refl
   still s c l n e false eb true ed =
       sym (ap (λ z. packetFor z l n) e ∙ (ap (λ k. packetFor s l k) (eqb-true n (s .number) ed) ∙ now-packet s l eb))
 
-  keeps-on : (s : Service) (held heldₜ : Last) (before beforeₜ : InternalState) (c : Call) (l : List Call) → Moved s (after s c) held heldₜ before beforeₜ → Keeps s (c ∷ l) → Keeps (after s c) l
+  keeps-on : (s : Service) (held heldₜ : Last) (before beforeₜ : InternalState) (c : Call) (l : List Call) → Moved s (afterCall s c) held heldₜ before beforeₜ → Keeps s (c ∷ l) → Keeps (afterCall s c) l
   keeps-on s held heldₜ before beforeₜ c l (stays e f g) k n a =
       k n (subst (λ z. Ahead z n) e a) ∙ still s c l n e (isOpen (s .phase)) refl (eqb n (s .number)) refl
   keeps-on s held heldₜ before beforeₜ c l (asks o e f g) k n a =
@@ -264,7 +265,7 @@ module _ (K : ℕ → EventPacket) where
   IsOne (Packet.Event e) = e ≡ K (e .number)
   IsOne (Packet.Picture v) = Unit {0}
 
-  writes-one : (s : Service) (c : Call) (l : List Call) (p : Packet) → Keeps s (c ∷ l) → Writes s c p → IsOne p
+  writes-one : (s : Service) (c : Call) (l : List Call) (p : Packet) → Keeps s (c ∷ l) → Sends s c p → IsOne p
   writes-one s (openEvent kind device detail r) l p k w = absurd w
   writes-one s (giveAnswer a r) l p k w = absurd w
   writes-one s writePicture l p k w = subst IsOne (sym (w .2)) tt
@@ -273,12 +274,12 @@ module _ (K : ℕ → EventPacket) where
       let a : Ahead s (s .number) = (omega arith, λ x. absurd (eqb-false 0 0 (sym x ∙ q .0) refl)) in
       subst IsOne (sym (w .2 ∙ ap Packet.Event (q .1))) (sym (k (s .number) a ∙ now-packet s (writePacket ∷ l) (q .0)))
 
-  pub wrote-one : (l : List Call) (s : Service) (held : Last) (before : InternalState) (p : Packet) → CallsFit l → Runs s held before → Keeps s l → Wrote s l p → IsOne p
+  pub wrote-one : (l : List Call) (s : Service) (held : Last) (before : InternalState) (p : Packet) → CallsFit l → Runs s held before → Keeps s l → HasSent s l p → IsOne p
   wrote-one (c ∷ l) s held before p cf x k w =
       ⊎-elim (λ z. writes-one s c l p k z)
       (λ z.
       let t = goes s held before c (cf .0) x in
-      wrote-one l (after s c) (t .heldₜ) (t .beforeₜ) p (cf .1) (t .runs) (keeps-on s held (t .heldₜ) before (t .beforeₜ) c l (t .moves) k) z)
+      wrote-one l (afterCall s c) (t .heldₜ) (t .beforeₜ) p (cf .1) (t .runs) (keeps-on s held (t .heldₜ) before (t .beforeₜ) c l (t .moves) k) z)
       w
 
 -- each packet and picture has its fields within what document 01 lays out
@@ -364,7 +365,7 @@ picture-fits-at g number k (Phase.Switching l old f new) m held before c o nb = 
 picture-fits-at g number k (Phase.Connecting s new) m held before c o nb = absurd (eqb-false 0 0 o refl)
 picture-fits-at g number k (Phase.Providing p d) m held before c o nb = absurd (eqb-false 0 0 o refl)
 
-writes-fits : (s : Service) (held : Last) (before : InternalState) (c : Call) (p : Packet) → Runs s held before → Writes s c p → wellFormed p ≡ true
+writes-fits : (s : Service) (held : Last) (before : InternalState) (c : Call) (p : Packet) → Runs s held before → Sends s c p → wellFormed p ≡ true
 writes-fits s held before (openEvent kind device detail r) p x w = absurd w
 writes-fits s held before (giveAnswer a r) p x w = absurd w
 writes-fits s held before writePacket p x w =
@@ -376,10 +377,10 @@ writes-fits s held before writePicture p x w =
     subst (λ z. wellFormed z ≡ true) (sym (w .2 ∙ ap Packet.Picture (q .1)))
     (picture-fits-at (s .registration) (s .number) (s .orders) (s .phase) (s .memory) held before (x .state) (q .0) (x .number))
 
-pub wrote-fits : (l : List Call) (s : Service) (held : Last) (before : InternalState) (p : Packet) → CallsFit l → Runs s held before → Wrote s l p → wellFormed p ≡ true
+pub wrote-fits : (l : List Call) (s : Service) (held : Last) (before : InternalState) (p : Packet) → CallsFit l → Runs s held before → HasSent s l p → wellFormed p ≡ true
 wrote-fits (c ∷ l) s held before p cf x w =
     ⊎-elim (λ z. writes-fits s held before c p x z)
-    (λ z. let t = goes s held before c (cf .0) x in wrote-fits l (after s c) (t .heldₜ) (t .beforeₜ) p (cf .1) (t .runs) z)
+    (λ z. let t = goes s held before c (cf .0) x in wrote-fits l (afterCall s c) (t .heldₜ) (t .beforeₜ) p (cf .1) (t .runs) z)
     w
 
 -- what is written is of an event that has closed, or of the start
@@ -388,22 +389,22 @@ grows : (l : List Call) (s : Service) (held : Last) (before : InternalState) →
 grows [] s held before cf x = omega arith
 grows (c ∷ l) s held before cf x =
     let t = goes s held before c (cf .0) x in
-    let n : s .number ≤ after s c .number = moved-number (λ k. displayOf (held .state)) s (after s c) held (t .heldₜ) before (t .beforeₜ) (t .moves) in
-    let m : after s c .number ≤ policies (policyOf (after s c) (t .heldₜ)) l .number = grows l (after s c) (t .heldₜ) (t .beforeₜ) (cf .1) (t .runs) in
+    let n : s .number ≤ afterCall s c .number = moved-number (λ k. displayOf (held .state)) s (afterCall s c) held (t .heldₜ) before (t .beforeₜ) (t .moves) in
+    let m : afterCall s c .number ≤ policies (policyOf (afterCall s c) (t .heldₜ)) l .number = grows l (afterCall s c) (t .heldₜ) (t .beforeₜ) (cf .1) (t .runs) in
     subst (λ z. s .number ≤ policies z l .number) (sym (t .same)) (omega (arith, n, m))
 
-writes-number : (s : Service) (held : Last) (c : Call) (p : Packet) → Writes s c p → numberIn p ≡ s .number
+writes-number : (s : Service) (held : Last) (c : Call) (p : Packet) → Sends s c p → numberIn p ≡ s .number
 writes-number s held (openEvent kind device detail r) p w = absurd w
 writes-number s held (giveAnswer a r) p w = absurd w
 writes-number s held writePacket p w = ap numberIn (w .2 ∙ ap Packet.Event (sent (λ n. displayOf (held .state)) s (w .0) (w .1) .1))
 writes-number s held writePicture p w = ap numberIn (w .2 ∙ ap Packet.Picture (shown (λ n. displayOf (held .state)) s (w .0) (w .1) .1))
 
-pub wrote-closed : (l : List Call) (s : Service) (held : Last) (before : InternalState) (p : Packet) → CallsFit l → Runs s held before → Wrote s l p →
+pub wrote-closed : (l : List Call) (s : Service) (held : Last) (before : InternalState) (p : Packet) → CallsFit l → Runs s held before → HasSent s l p →
     numberIn p ≤ policies (policyOf s held) l .number
 wrote-closed (c ∷ l) s held before p cf x w =
     ⊎-elim
     (λ z. let e : numberIn p ≡ s .number = writes-number s held c p z in omega (arith, e, grows (c ∷ l) s held before cf x))
     (λ z.
     let t = goes s held before c (cf .0) x in
-    subst (λ q. numberIn p ≤ policies q l .number) (sym (t .same)) (wrote-closed l (after s c) (t .heldₜ) (t .beforeₜ) p (cf .1) (t .runs) z))
+    subst (λ q. numberIn p ≤ policies q l .number) (sym (t .same)) (wrote-closed l (afterCall s c) (t .heldₜ) (t .beforeₜ) p (cf .1) (t .runs) z))
     w

@@ -8,19 +8,22 @@ use Rattle.power_policy_interface.specs.Psu.{answerByte}
 use Rattle.power_policy_interface.specs.declared.psu.Result.{Result}
 use Rattle.display.specs.Notices.{listed}
 use Rattle.display.specs.declared.packet.Packet.{Packet}
+use Rattle.abstract_policy.specs.Action.{Held, Interaction, done, ask}
+use Rattle.abstract_policy.specs.Fed.{Answers, fedBy, ordersBy}
+use Rattle.abstract_policy.specs.Ends.{AtMost}
+use Rattle.abstract_policy.specs.Policy.{Call, Stand, between, at, Policy, orderAt, started, heldAt, policies}
+use Rattle.abstract_policy.specs.Returns.{openTo, answerTo, packetTo, pictureTo}
+use Rattle.abstract_policy.specs.declared.state.Records.{Records}
 use Rattle.event.specs.Phase.{orderOf}
-use Rattle.event.specs.declared.memory.Records.{Records}
 use Rattle.service.specs.Service.{answerIn, openOf, answerOf}
 use Rattle.service.specs.declared.Service.{Service}
 use Rattle.send.specs.Send.{packetOf, sendPacket, sendPicture}
-use Rattle.interaction.specs.Action.{Held, Interaction, done, ask}
 use Rattle.interaction.specs.Machine as machine
 use Rattle.interaction.specs.Machine.{standsAt}
-use Rattle.interaction.specs.Served.{Answers, serviceAfter, fedBy, ordersBy, AtMost, numbered, Stands, Opens, eventAt}
+use Rattle.interaction.specs.Served.{serviceAfter, numbered, Stands, Opens, eventAt}
 use Rattle.link.specs.Link.{Demand3}
 use Rattle.link.specs.Source.{Source}
-use Rattle.run.specs.Policy.{Call, Stand, between, at, Policy, orderAt, started, heldAt}
-use Rattle.run.specs.Run.{Wrote, openTo, answerTo, packetTo, pictureTo, services, policies}
+use Rattle.run.specs.Run.{HasSent, services}
 use Rattle.run.specs.Sized.{CallsFit}
 
 -- demand 1: each event closes after at most 3 + 4 × chargers orders
@@ -84,7 +87,7 @@ pub record OnLink (s : Service) (calls : List Call) : Type 1 where
   pub closed :
       (n : ℕ) → (source .Closed n → n ≤ policies (started (s .registration)) calls .number)
       × (n ≤ policies (started (s .registration)) calls .number → source .Closed n)
-  pub written : (p : Packet) → (source .Written p → Wrote s calls p) × (Wrote s calls p → source .Written p)
+  pub written : (p : Packet) → (source .Written p → HasSent s calls p) × (HasSent s calls p → source .Written p)
   pub demand : Demand3 source
 
 -- all three, of every list of calls whose records have their figures within their types

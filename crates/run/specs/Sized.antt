@@ -4,17 +4,17 @@ use Prim.Native.Nat.{ℕ, _<_, _≤_}
 use mathlib.Core.Bool.{true}
 use mathlib.Core.List.{List, [], _∷_}
 use mathlib.Core.Path.{_≡_}
+use Rattle.power_policy_interface.specs.Capability.{capabilityFits}
 use Rattle.power_policy_interface.specs.declared.capability.OptionConsumerPowerCapability.{OptionConsumerPowerCapability}
 use Rattle.power_policy_interface.specs.declared.capability.OptionProviderPowerCapability.{OptionProviderPowerCapability}
 use Rattle.power_policy_interface.specs.declared.psu.State.{State}
 use Rattle.power_policy_service.specs.Rows.{psuAt}
+use Rattle.power_policy_service.specs.Config.{ConfigFits}
 use Rattle.power_policy_service.specs.declared.config.Config.{Config}
-use Rattle.power_policy_service.specs.declared.config.OptionMilliwatts.{OptionMilliwatts}
-use Rattle.event.specs.declared.memory.Records.{Records}
+use Rattle.abstract_policy.specs.Policy.{Call, openEvent, giveAnswer, writePacket, writePicture}
+use Rattle.abstract_policy.specs.declared.state.Records.{Records}
 use Rattle.service.specs.Service.{freshService}
 use Rattle.service.specs.declared.Service.{Service}
-use Rattle.wire.specs.WellFormed.{capabilityFits}
-use Rattle.run.specs.Policy.{Call, openEvent, giveAnswer, writePacket, writePicture}
 
 -- 16 bits for mV and mA
 abbrev pub OfferFits : OptionConsumerPowerCapability → Type 0
@@ -31,10 +31,6 @@ PsuFits s = OfferFits (s .«consumer_capability») × RequestFits (s .«requeste
 abbrev pub RecordsFit : Records → Type 0
 RecordsFit r = (p : ℕ) → p < 16 → PsuFits (psuAt (r .psus) p)
 
-pub record ConfigFits (c : Config) : Type 0 where
-  pub unlimited : capabilityFits (c .«provider_unlimited») ≡ true
-  pub limited : capabilityFits (c .«provider_limited») ≡ true
-
 abbrev pub CallFits : Call → Type 0
 CallFits (openEvent kind device detail r) = RecordsFit r
 CallFits (giveAnswer a r) = RecordsFit r
@@ -45,11 +41,6 @@ abbrev pub CallsFit : List Call → Type 0
 CallsFit [] = Unit {0}
 CallsFit (c ∷ l) = CallFits c × CallsFit l
 
--- 32 bits for mW
-abbrev pub MinimumFits : OptionMilliwatts → Type 0
-MinimumFits OptionMilliwatts.None = Unit {0}
-MinimumFits (OptionMilliwatts.Some n) = n ≤ 4294967295
-
 -- what a start has accepted: the service is fresh, and all figures are within their types
 pub record StartFits (ports chargers : ℕ) (s : Service) : Type 0 where
   pub config : Config
@@ -57,5 +48,3 @@ pub record StartFits (ports chargers : ℕ) (s : Service) : Type 0 where
   pub few-ports : ports ≤ 16
   pub few-chargers : chargers ≤ 8
   pub figures : ConfigFits config
-  pub threshold : config .«limited_power_threshold_mw» ≤ 4294967295
-  pub minimum : MinimumFits (config .«min_consumer_threshold_mw»)

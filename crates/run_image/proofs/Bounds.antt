@@ -3,17 +3,17 @@ use mathlib.Core.Path.{_≡_, refl, sym, ap, _∙_, subst}
 use Prim.Native.Nat.{ℕ, _+_, _*_, _-_, _≤_}
 use mathlib.Core.List.{List}
 use lib.ListN.{length}
-use Rattle.event.specs.declared.phase.Order.{Order}
+use Rattle.abstract_policy.specs.Action.{Interaction, done, ask}
+use Rattle.abstract_policy.specs.Ends.{AtMost}
+use Rattle.abstract_policy.specs.Orders.{Counted}
+use Rattle.abstract_policy.specs.Policy.{Policy, Stand, between, at}
+use Rattle.abstract_policy.specs.declared.order.Order.{Order}
 use Rattle.service.specs.declared.Service.{Service}
-use Rattle.interaction.specs.Action.{Interaction, done, ask}
 use Rattle.interaction.specs.Machine.{standsAt}
-use Rattle.interaction.specs.Served.{AtMost}
-use Rattle.run.specs.Orders.{Counted}
-use Rattle.run.specs.Policy.{Policy, Stand, between, at}
 use Rattle.run.specs.Demands.{standOf, Equal}
+use Rattle.abstract_calls.specs.Definition.{Closes}
 use Rattle.invariant.proofs.Good.{Good}
 use Rattle.invariant.proofs.Bound.{good-orders, good-rest}
-use Rattle.run_image.specs.Definition.{Closes}
 
 closes-at : (chargers n : ℕ) (i : Interaction) → AtMost (4 + 4 * chargers - n) i → Closes chargers (standOf n i)
 closes-at chargers n (done a h) m = tt

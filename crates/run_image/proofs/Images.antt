@@ -8,35 +8,37 @@ use lib.Dec.{eqb, ltb}
 use lib.ListN.{length}
 use borrow.Author.Tests.{eq-eqb}
 use Rattle.power_policy_interface.specs.declared.psu.Result.{Result}
+use Rattle.abstract_policy.specs.Refusals.{firstRefused}
+use Rattle.abstract_policy.specs.Given.{eventOf, resultOf}
+use Rattle.abstract_policy.specs.Policy as policy
+use Rattle.abstract_policy.specs.Policy.{Call}
+use Rattle.abstract_policy.specs.declared.state.Records.{Records}
+use Rattle.abstract_policy.specs.declared.state.Registration.{Registration}
+use Rattle.abstract_policy.specs.declared.order.OptionOrder.{OptionOrder}
+use Rattle.abstract_policy.specs.declared.outcome.Step.{Step}
 use Rattle.event.specs.Phase.{orderOf}
-use Rattle.event.specs.declared.memory.Records.{Records}
-use Rattle.event.specs.declared.memory.Registration.{Registration}
-use Rattle.event.specs.declared.phase.OptionOrder.{OptionOrder}
 use Rattle.event.specs.declared.phase.Turn.{Turn}
 use Rattle.process.specs.Process.{answeredOf, processOf}
-use Rattle.service.specs.Refusals.{firstRefused, openRefusals, answerRefusals}
-use Rattle.service.specs.Service.{stepped, refused, movedBy, clearedOf, eventOf, openedOf, openOf, orderIn, resultOf, answeredBy, answerOf}
+use Rattle.service.specs.Refusals.{openRefusals, answerRefusals}
+use Rattle.service.specs.Service.{stepped, refused, movedBy, clearedOf, openedOf, openOf, orderIn, answeredBy, answerOf}
 use Rattle.service.specs.declared.Service.{Service}
-use Rattle.service.specs.declared.Step.{Step}
 use Rattle.service.specs.declared.Stepped.{Stepped}
-use Rattle.run.specs.Policy as policy
-use Rattle.run.specs.Policy.{Call}
-use Rattle.run.specs.Run.{after, services}
+use Rattle.run.specs.Run.{afterCall, services}
 use Rattle.run.specs.Sized.{CallsFit}
 use Rattle.run.proofs.Rows.{row-fits}
+use Rattle.abstract_calls.specs.Called.{refusedCall}
+use Rattle.abstract_calls.specs.Lent.{rowsIn}
+use Rattle.abstract_calls.specs.Calls.{ByteCall, openEvent, giveAnswer, readOrder, writePacket, writePicture, imageAfter, images, CallBytes, CallsBytes}
+use Rattle.abstract_calls.specs.Definition.{onRows, callOf, callsOf}
+use Rattle.abstract_calls.specs.declared.Rows.{Rows}
 use Rattle.service_image.specs.Image.{serviceBytes, serviceFrom}
 use Rattle.service_image.specs.declared.ReadService.{ReadService}
 use Rattle.service_image.proofs.Service.{service-read-write}
 use Rattle.service_image.proofs.Stored.{service-length}
 use Rattle.invariant.proofs.Good.{Good}
 use Rattle.invariant.proofs.Invariant.{services-good}
-use Rattle.calls.specs.Called.{refusedCall}
-use Rattle.calls.specs.Lent.{rowsIn}
 use Rattle.calls.specs.Calls.{putService, steppedAt, steppedCall, withRows, onService}
-use Rattle.calls.specs.declared.rows.Rows.{Rows}
-use Rattle.exported.specs.Calls.{ByteCall, openEvent, giveAnswer, readOrder, writePacket, writePicture, imageAfter, images, CallBytes, CallsBytes}
 use Rattle.exported.specs.Ours.{functions}
-use Rattle.run_image.specs.Definition.{onRows, callOf, callsOf}
 
 -- what a call leaves of the service
 
@@ -82,7 +84,7 @@ answer-keeps s a r = go (eqb n 0)
     go true = moved-keeps s (orderOf (t .phase)) (s .number) (s .orders) t
     go false = record { back = refl; registered = refl }
 
-after-registration : (s : Service) (c : Call) → after s c .registration ≡ s .registration
+after-registration : (s : Service) (c : Call) → afterCall s c .registration ≡ s .registration
 after-registration s (policy.openEvent kind device detail r) = open-keeps s kind device detail r .registered
 after-registration s (policy.giveAnswer a r) = answer-keeps s a r .registered
 after-registration s policy.writePacket = refl
@@ -90,11 +92,11 @@ after-registration s policy.writePicture = refl
 
 pub services-registration : (l : List Call) (s : Service) → services s l .registration ≡ s .registration
 services-registration [] s = refl
-services-registration (c ∷ l) s = services-registration l (after s c) ∙ after-registration s c
+services-registration (c ∷ l) s = services-registration l (afterCall s c) ∙ after-registration s c
 
 pub services-on : (l m : List Call) (s : Service) → services s (l ++ m) ≡ services (services s l) m
 services-on [] m s = refl
-services-on (c ∷ l) m s = services-on l m (after s c)
+services-on (c ∷ l) m s = services-on l m (afterCall s c)
 
 -- records that are read from bytes have their figures within their types
 
@@ -142,7 +144,7 @@ stepped-bytes s (Step.Order o) t b = put-is s t
 stepped-bytes s (Step.Closed a n) t b = put-is s t
 stepped-bytes s (Step.Refused n) t b = ap serviceBytes (sym b)
 
-rows-bytes : (s : Service) (r : Rows) (f : Records → Stepped) (c : Records → Call) → ((x : Records) → Keeps s (f x)) → ((x : Records) → f x .service ≡ after s (c x)) →
+rows-bytes : (s : Service) (r : Rows) (f : Records → Stepped) (c : Records → Call) → ((x : Records) → Keeps s (f x)) → ((x : Records) → f x .service ≡ afterCall s (c x)) →
     withRows (serviceBytes s) r f .bytes ≡ serviceBytes (services s (onRows r c))
 rows-bytes s r f c k e = go (r .ok)
   where

@@ -7,40 +7,42 @@ use native.Mathlib.Omega.{arith}
 use lib.Dec.{eqb, ltb}
 use lib.ListN.{length}
 use borrow.Author.Tests.{eqb-true, eqb-false}
+use Rattle.power_policy_interface.specs.declared.psu.Result.{Result}
 use Rattle.power_policy_service.specs.declared.config.OptionConfig.{OptionConfig}
+use Rattle.abstract_policy.specs.Refusals.{firstRefused, Lowest, overRegistered}
+use Rattle.abstract_policy.specs.Given.{eventOf, resultOf}
+use Rattle.abstract_policy.specs.declared.state.Records.{Records}
+use Rattle.abstract_policy.specs.declared.state.Registration.{Registration}
+use Rattle.abstract_policy.specs.declared.order.OptionOrder.{OptionOrder}
+use Rattle.abstract_policy.specs.declared.order.Order.{Order}
+use Rattle.abstract_policy.specs.declared.outcome.Step.{Step}
+use Rattle.abstract_policy.specs.declared.outcome.SentPacket.{SentPacket}
+use Rattle.abstract_policy.specs.declared.outcome.SentPicture.{SentPicture}
+use Rattle.abstract_policy.proofs.Lowest.{lowest}
 use Rattle.event.specs.Phase.{orderOf}
-use Rattle.event.specs.declared.memory.Records.{Records}
-use Rattle.event.specs.declared.memory.Registration.{Registration}
-use Rattle.event.specs.declared.phase.OptionOrder.{OptionOrder}
-use Rattle.event.specs.declared.phase.Order.{Order}
 use Rattle.event.specs.declared.phase.Phase.{Phase}
 use Rattle.event.specs.declared.phase.Turn.{Turn}
-use Rattle.power_policy_interface.specs.declared.psu.Result.{Result}
 use Rattle.process.specs.Process.{processOf, answeredOf}
-use Rattle.service.specs.Refusals.{firstRefused, Lowest, isOpen, overRegistered, openRefusals, answerRefusals}
-use Rattle.service.specs.Service.{stepped, refused, movedBy, eventOf, clearedOf, openedOf, openOf, orderIn, resultOf, answeredBy, answerOf, answerIn, freshService}
+use Rattle.service.specs.Refusals.{isOpen, openRefusals, answerRefusals}
+use Rattle.service.specs.Service.{stepped, refused, movedBy, clearedOf, openedOf, openOf, orderIn, answeredBy, answerOf, answerIn, freshService}
 use Rattle.service.specs.declared.Service.{Service}
 use Rattle.service.specs.declared.Started.{Started}
-use Rattle.service.specs.declared.Step.{Step}
 use Rattle.service.specs.declared.Stepped.{Stepped}
-use Rattle.service.proofs.Lowest.{lowest}
 use Rattle.send.specs.Send.{packetOf, pictureOf, packetRefusals, pictureRefusals}
-use Rattle.send.specs.declared.SentPacket.{SentPacket}
-use Rattle.send.specs.declared.SentPicture.{SentPicture}
 use Rattle.wire.specs.Bytes.{eventBytes, pictureBytes}
 use Rattle.wire_writer.specs.declared.Written.{Written}
+use Rattle.abstract_calls.specs.Called.{called, refusedCall}
+use Rattle.abstract_calls.specs.Lent.{rowsIn, writtenAs, writtenCall, packetCall, pictureCall}
+use Rattle.abstract_calls.specs.Numbers.{refusedNumber, writtenNumber, doneNumber}
+use Rattle.abstract_calls.specs.Calls.{ByteCall, openEvent, giveAnswer, readOrder, writePacket, writePicture, returned}
+use Rattle.abstract_calls.specs.Definition.{wrongRows, short, startConditions, Refuses}
+use Rattle.abstract_calls.specs.declared.Rows.{Rows}
+use Rattle.abstract_calls.proofs.Results.{order-low, closed-low, written-low, done-low}
 use Rattle.service_image.specs.Image.{serviceBytes, serviceFrom}
 use Rattle.service_image.specs.declared.ReadService.{ReadService}
-use Rattle.calls.specs.Called.{called, refusedCall}
-use Rattle.calls.specs.Lent.{rowsIn, writtenAs, writtenCall, packetCall, pictureCall}
 use Rattle.calls.specs.Calls.{steppedCall, onService, standNumber, orderCall, writePacketCall, writePictureCall, startCall, startedCall}
-use Rattle.calls.specs.Numbers.{refusedNumber, writtenNumber, doneNumber}
-use Rattle.calls.specs.declared.rows.Rows.{Rows}
-use Rattle.exported.specs.Calls.{ByteCall, openEvent, giveAnswer, readOrder, writePacket, writePicture, returned}
 use Rattle.exported.specs.Ours.{functions}
-use Rattle.run_image.specs.Definition.{wrongRows, short, startConditions, Refuses}
 use Rattle.run_image.specs.Refused.{ofImage, conditions}
-use Rattle.calls.proofs.Results.{order-low, closed-low, written-low, done-low}
 
 -- an order and a close have another low byte than a refusal
 

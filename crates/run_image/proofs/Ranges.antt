@@ -6,35 +6,39 @@ use Prim.Native.Nat.{ℕ, _^_, _<_, _≤_}
 use native.Mathlib.Omega.{arith}
 use lib.Dec.{eqb, ltb, leb}
 use borrow.Author.Tests.{ltb-true, leb-true}
+use Rattle.power_policy_interface.specs.Psu.{mismatchOf}
+use Rattle.power_policy_interface.specs.Capability.{capabilityFits}
 use Rattle.power_policy_interface.specs.declared.capability.PowerCapability.{PowerCapability}
 use Rattle.power_policy_interface.specs.declared.psu.Error.{Error}
 use Rattle.power_policy_interface.specs.declared.psu.OptionMismatch.{OptionMismatch}
 use Rattle.power_policy_interface.specs.declared.psu.Result.{Result}
 use Rattle.display.specs.declared.Display.{Display}
 use Rattle.display.specs.declared.OptionAvailableConsumer.{OptionAvailableConsumer}
+use Rattle.abstract_policy.specs.Given.{eventOf, resultOf}
+use Rattle.abstract_policy.specs.State.{displayOf}
+use Rattle.abstract_policy.specs.Action.{Interaction, done, ask}
+use Rattle.abstract_policy.specs.Interaction.{event}
+use Rattle.abstract_policy.specs.Refusals.{noAnswer}
+use Rattle.abstract_policy.specs.Policy.{Call, openEvent, giveAnswer, writePacket, writePicture, Stand, between, at, Policy, started, proceeds, openRefused, opens, answers, policyAfter, orderAt, heldAt, policies}
+use Rattle.abstract_policy.specs.declared.state.InternalState.{InternalState}
+use Rattle.abstract_policy.specs.declared.state.Records.{Records}
+use Rattle.abstract_policy.specs.declared.state.Registration.{Registration}
+use Rattle.abstract_policy.specs.declared.order.OptionOrder.{OptionOrder}
+use Rattle.abstract_policy.specs.declared.order.Order.{Order}
 use Rattle.event.specs.Phase.{orderOf, switchOrder, connectOrder}
-use Rattle.event.specs.declared.memory.InternalState.{InternalState}
-use Rattle.event.specs.declared.memory.Records.{Records}
-use Rattle.event.specs.declared.memory.Registration.{Registration}
 use Rattle.event.specs.declared.phase.Leaver.{Leaver}
-use Rattle.event.specs.declared.phase.OptionOrder.{OptionOrder}
-use Rattle.event.specs.declared.phase.Order.{Order}
 use Rattle.event.specs.declared.phase.Phase.{Phase}
 use Rattle.event.specs.declared.phase.Stage.{Stage}
-use Rattle.service.specs.Service.{answerIn, eventOf, resultOf}
+use Rattle.service.specs.Service.{answerIn}
 use Rattle.service.specs.declared.Service.{Service}
-use Rattle.send.specs.Send.{displayOf}
-use Rattle.interaction.specs.Action.{Interaction, done, ask}
-use Rattle.interaction.specs.Interaction.{event}
-use Rattle.interaction.specs.Served.{noAnswer}
+use Rattle.wire.proofs.ReadWrite.{and-left, and-right}
 use Rattle.run.specs.Demands as run
 use Rattle.run.specs.Demands.{Equal}
-use Rattle.run.specs.Policy.{Call, openEvent, giveAnswer, writePacket, writePicture, Stand, between, at, Policy, started, proceeds, openRefused, opens, answers, policyAfter, orderAt, heldAt}
-use Rattle.run.specs.Run.{services, policies}
+use Rattle.run.specs.Run.{services}
 use Rattle.run.specs.Sized.{CallsFit}
-use Rattle.run.proofs.Chosen.{policies-append}
-use Rattle.wire.specs.WellFormed.{capabilityFits}
-use Rattle.wire.proofs.ReadWrite.{and-left, and-right}
+use Rattle.abstract_policy.proofs.Chosen.{policies-append}
+use Rattle.abstract_calls.specs.OneToOne.{CapabilityFits, OrderFits, MismatchFits, AnswerFits, ConsumerFits, DisplayFits}
+use Rattle.abstract_calls.specs.Definition.{OrderFitsAt}
 use Rattle.image.proofs.Quads.{Within}
 use Rattle.service_image.specs.Typed.{ConsumerTyped, PhaseTyped}
 use Rattle.service_image.specs.WellFormed.{consumerFits, mismatchFits, errorFits, resultFits, leaverFits, stageFits, phaseFits}
@@ -42,9 +46,6 @@ use Rattle.service_image.proofs.Fits.{within}
 use Rattle.service_image.proofs.Masks.{mask-lt}
 use Rattle.invariant.proofs.Good.{Good, StateGood, parts}
 use Rattle.invariant.proofs.Invariant.{services-good}
-use Rattle.calls.specs.Numbers.{mismatchIn}
-use Rattle.run_image.specs.Definition.{OrderFitsAt}
-use Rattle.calls.specs.OneToOne.{CapabilityFits, OrderFits, MismatchFits, AnswerFits, ConsumerFits, DisplayFits}
 
 -- of a well-formed service
 
@@ -81,7 +82,7 @@ mismatch-fits (OptionMismatch.Some m) e =
     let l = leb-true (m .expected) 15 (and-right (ltb 0 (m .expected)) (leb (m .expected) 15) e) in
     (ltb-true 0 (m .expected) (and-left (ltb 0 (m .expected)) (leb (m .expected) 15) e), omega (arith, l))
 
-error-fits : (e : Error) → errorFits e ≡ true → MismatchFits (mismatchIn e)
+error-fits : (e : Error) → errorFits e ≡ true → MismatchFits (mismatchOf e)
 error-fits Error.InvalidDevice h = tt
 error-fits Error.CannotProvide h = tt
 error-fits Error.CannotConsume h = tt

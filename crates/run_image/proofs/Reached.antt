@@ -3,19 +3,19 @@
 use mathlib.Core.Path.{_≡_, sym, ap, _∙_, subst}
 use mathlib.Core.List.{List}
 use Prim.Native.Nat.{ℕ, _≤_}
+use Rattle.power_policy_service.specs.Config.{MinimumFits}
 use Rattle.power_policy_service.specs.declared.config.OptionMilliwatts.{OptionMilliwatts}
 use Rattle.service.specs.declared.Service.{Service}
 use Rattle.run.specs.Demands as run
 use Rattle.run.specs.Demands.{Equal}
 use Rattle.run.specs.Run.{services}
-use Rattle.run.specs.Sized.{MinimumFits, StartFits}
+use Rattle.run.specs.Sized.{StartFits}
+use Rattle.abstract_calls.specs.Calls.{ByteCall, returned, bufferAfter, images, CallsBytes}
+use Rattle.abstract_calls.specs.Definition.{callsOf, defined, returnTo, bufferTo}
 use Rattle.service_image.specs.Image.{serviceBytes}
-use Rattle.service_image.specs.Typed.{MilliwattsTyped}
 use Rattle.invariant.proofs.Good.{Good}
 use Rattle.invariant.proofs.Invariant.{start-good, services-good}
-use Rattle.exported.specs.Calls.{ByteCall, returned, bufferAfter, images, CallsBytes}
 use Rattle.exported.specs.Ours.{functions}
-use Rattle.run_image.specs.Definition.{callsOf, defined, returnTo, bufferTo}
 use Rattle.run_image.proofs.Images.{services-registration, calls-fit, images-are}
 use Rattle.run_image.proofs.Returns.{returns-are, buffers-are}
 
@@ -48,17 +48,7 @@ module _ (s : Service) (good : Good s) (demands : run.Demands s) (l : List ByteC
 
 -- a start that is accepted gives such a service
 
-minimum-typed : (m : OptionMilliwatts) → MinimumFits m → MilliwattsTyped m
-minimum-typed OptionMilliwatts.None h = tt
-minimum-typed (OptionMilliwatts.Some n) h = h
-
 pub fits-good : (ports chargers : ℕ) (s : Service) → StartFits ports chargers s → Good s
 fits-good ports chargers s f =
     subst Good (sym (f .fresh))
-    (start-good (f .config) ports chargers (f .few-ports) (f .few-chargers)
-    (record {
-      threshold = f .threshold;
-      unlimited = f .figures .unlimited;
-      limited = f .figures .limited;
-      minimum = minimum-typed (f .config .«min_consumer_threshold_mw») (f .minimum);
-    }))
+    (start-good (f .config) ports chargers (f .few-ports) (f .few-chargers) (f .figures))

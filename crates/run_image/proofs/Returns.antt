@@ -5,30 +5,30 @@ use mathlib.Core.Bool.{Bool, true, false, cond}
 use mathlib.Core.List.{List}
 use Prim.Native.Nat.{ℕ}
 use Rattle.power_policy_interface.specs.declared.psu.Result.{Result}
+use Rattle.abstract_policy.specs.Policy.{Policy, Stand, between, at, orderAt}
+use Rattle.abstract_policy.specs.Returns.{openTo, answerTo}
+use Rattle.abstract_policy.specs.declared.state.Records.{Records}
+use Rattle.abstract_policy.specs.declared.state.Registration.{Registration}
+use Rattle.abstract_policy.specs.declared.order.OptionOrder.{OptionOrder}
+use Rattle.abstract_policy.specs.declared.outcome.Step.{Step}
+use Rattle.abstract_policy.specs.declared.outcome.SentPacket.{SentPacket}
+use Rattle.abstract_policy.specs.declared.outcome.SentPicture.{SentPicture}
 use Rattle.event.specs.Phase.{orderOf}
-use Rattle.event.specs.declared.memory.Records.{Records}
-use Rattle.event.specs.declared.memory.Registration.{Registration}
-use Rattle.event.specs.declared.phase.OptionOrder.{OptionOrder}
 use Rattle.service.specs.Service.{answerIn, openOf, answerOf}
 use Rattle.service.specs.declared.Service.{Service}
-use Rattle.service.specs.declared.Step.{Step}
 use Rattle.service.specs.declared.Stepped.{Stepped}
-use Rattle.send.specs.declared.SentPacket.{SentPacket}
-use Rattle.send.specs.declared.SentPicture.{SentPicture}
-use Rattle.run.specs.Policy.{Policy, Stand, between, at, orderAt}
-use Rattle.run.specs.Run.{openTo, answerTo}
 use Rattle.run.specs.Demands.{Equal}
+use Rattle.abstract_calls.specs.Called.{refusedCall}
+use Rattle.abstract_calls.specs.Lent.{rowsIn, packetCall, pictureCall}
+use Rattle.abstract_calls.specs.Numbers.{refusedNumber, closedNumber, stepNumber}
+use Rattle.abstract_calls.specs.Calls.{ByteCall, openEvent, giveAnswer, readOrder, writePacket, writePicture, returned, bufferAfter}
+use Rattle.abstract_calls.specs.Definition.{rowsTo, standTo, returnTo, bufferTo}
+use Rattle.abstract_calls.specs.declared.Rows.{Rows}
 use Rattle.service_image.specs.Image.{serviceBytes}
 use Rattle.service_image.specs.declared.ReadService.{ReadService}
 use Rattle.invariant.proofs.Good.{Good}
-use Rattle.calls.specs.Called.{refusedCall}
-use Rattle.calls.specs.Lent.{rowsIn, packetCall, pictureCall}
 use Rattle.calls.specs.Calls.{steppedAt, steppedCall, withRows, onService, standNumber, orderCall, writePacketCall, writePictureCall}
-use Rattle.calls.specs.Numbers.{refusedNumber, closedNumber, stepNumber}
-use Rattle.calls.specs.declared.rows.Rows.{Rows}
-use Rattle.exported.specs.Calls.{ByteCall, openEvent, giveAnswer, readOrder, writePacket, writePicture, returned, bufferAfter}
 use Rattle.exported.specs.Ours.{functions}
-use Rattle.run_image.specs.Definition.{rowsTo, standTo, returnTo, bufferTo}
 use Rattle.run_image.proofs.Images.{image-read}
 
 stepped-number : (b : List ℕ) (x : Step) (t : Service) → steppedAt b x t .number ≡ stepNumber x

@@ -9,22 +9,23 @@ use borrow.Author.Tests.{eq-eqb}
 use Rattle.records.specs.Row.{AllBytes}
 use Rattle.wire.specs.Read.{readPacket}
 use Rattle.wire.specs.declared.packet.ReadPacket.{ReadPacket}
+use Rattle.abstract_desk.specs.Takes.{EachBytes}
 use Rattle.follower.specs.Follower.{fresh, taken}
 use Rattle.follower.specs.declared.Follower.{Follower}
-use Rattle.link.specs.Link.{after}
+use Rattle.link.specs.Link.{followerAfter}
 use Rattle.link.specs.Source.{Source}
 use Rattle.link.specs.Takes as link
-use Rattle.link.specs.Takes.{takenRead, take, Handed, copy, turned-back, AllHanded}
+use Rattle.link.specs.Takes.{takenRead, takeBytes, Carried, copy, turned-back, AllCarried}
 use Rattle.link.proofs.Lists.{read-back}
+use Rattle.abstract_calls.specs.Called.{Called, called, refusedCall}
+use Rattle.abstract_calls.specs.Numbers.{doneNumber}
+use Rattle.abstract_calls.specs.Calls.{takesOn, desk}
 use Rattle.follower_image.specs.Fits.{imageFits}
 use Rattle.follower_image.specs.Image.{followerBytes, followerFrom}
 use Rattle.follower_image.specs.declared.ReadFollower.{ReadFollower}
 use Rattle.follower_image.proofs.OneImage.{follower-length, follower-read-write, fresh-fits}
 use Rattle.follower_image.proofs.Takes as image
-use Rattle.calls.specs.Called.{Called, called, refusedCall}
 use Rattle.calls.specs.Calls.{putFollower, takenCall, takeCall, followerStartCall}
-use Rattle.calls.specs.Numbers.{doneNumber}
-use Rattle.exported.specs.Calls.{takesOn, desk, EachBytes}
 use Rattle.exported.specs.Ours.{functions}
 
 -- one take
@@ -36,7 +37,7 @@ taken-bytes : (f : Follower) (y : ReadPacket) → takenCall (followerBytes f) f 
 taken-bytes f (ReadPacket.Refused n) = refl
 taken-bytes f (ReadPacket.Packet p) = put-is f (taken f p)
 
-take-bytes : (f : Follower) (x : List ℕ) → imageFits f ≡ true → takeCall (followerBytes f) x .bytes ≡ followerBytes (take f x)
+take-bytes : (f : Follower) (x : List ℕ) → imageFits f ≡ true → takeCall (followerBytes f) x .bytes ≡ followerBytes (takeBytes f x)
 take-bytes f x h =
     ap (λ (r : ReadFollower). cond {A = Called} (r .ok) (takenCall (followerBytes f) (r .follower) (readPacket x)) (refusedCall 21 (followerBytes f)) .bytes)
     (follower-read-write f h)
@@ -50,7 +51,7 @@ started-bytes b e = ap (λ (x : Bool). cond {A = Called} x (called doneNumber (f
 -- takes that leave a follower that has an image
 
 pub record Keeps (x : List ℕ) : Type 0 where
-  pub fits : (f : Follower) → imageFits f ≡ true → imageFits (take f x) ≡ true
+  pub fits : (f : Follower) → imageFits f ≡ true → imageFits (takeBytes f x) ≡ true
 
 abbrev pub AllKeep : List (List ℕ) → Type 0
 AllKeep [] = Unit {0}
@@ -69,7 +70,7 @@ each-keeps [] b = tt
 each-keeps (x ∷ l) b = (bytes-keep x (b .0), each-keeps l (b .1))
 
 -- what the link hands over
-handed-keeps : (source : Source) (x : List ℕ) → Handed source x → Keeps x
+handed-keeps : (source : Source) (x : List ℕ) → Carried source x → Keeps x
 handed-keeps source x (copy p w e) =
     record {
       fits = λ f h.
@@ -77,29 +78,29 @@ handed-keeps source x (copy p w e) =
     }
 handed-keeps source x (turned-back n e) = record { fits = λ f h. subst (λ (y : ReadPacket). imageFits (takenRead f y) ≡ true) (sym e) h }
 
-pub all-keep : (source : Source) (l : List (List ℕ)) → AllHanded source l → AllKeep l
+pub all-keep : (source : Source) (l : List (List ℕ)) → AllCarried source l → AllKeep l
 all-keep source [] q = tt
 all-keep source (x ∷ l) q = (handed-keeps source x (q .0), all-keep source l (q .1))
 
 -- a list of them
 
-takes-bytes : (l : List (List ℕ)) (f : Follower) → AllKeep l → imageFits f ≡ true → takesOn functions (followerBytes f) l ≡ followerBytes (link.takes f l)
+takes-bytes : (l : List (List ℕ)) (f : Follower) → AllKeep l → imageFits f ≡ true → takesOn functions (followerBytes f) l ≡ followerBytes (link.takesBytes f l)
 takes-bytes [] f a h = refl
 takes-bytes (x ∷ l) f a h =
-    ap (λ (b : List ℕ). takesOn functions b l) (take-bytes f x h) ∙ takes-bytes l (take f x) (a .1) (a .0 .fits f h)
+    ap (λ (b : List ℕ). takesOn functions b l) (take-bytes f x h) ∙ takes-bytes l (takeBytes f x) (a .1) (a .0 .fits f h)
 
-takes-fit : (l : List (List ℕ)) (f : Follower) → AllKeep l → imageFits f ≡ true → imageFits (link.takes f l) ≡ true
+takes-fit : (l : List (List ℕ)) (f : Follower) → AllKeep l → imageFits f ≡ true → imageFits (link.takesBytes f l) ≡ true
 takes-fit [] f a h = h
-takes-fit (x ∷ l) f a h = takes-fit l (take f x) (a .1) (a .0 .fits f h)
+takes-fit (x ∷ l) f a h = takes-fit l (takeBytes f x) (a .1) (a .0 .fits f h)
 
 -- from a fresh follower's image
 
 module _ (b : List ℕ) (e : length b ≡ 241) (l : List (List ℕ)) (a : AllKeep l) where
-  pub desk-is : desk functions b l ≡ followerBytes (after l)
+  pub desk-is : desk functions b l ≡ followerBytes (followerAfter l)
   desk-is = ap (λ (x : List ℕ). takesOn functions x l) (started-bytes b e) ∙ takes-bytes l fresh a fresh-fits
 
-  pub desk-fits : imageFits (after l) ≡ true
+  pub desk-fits : imageFits (followerAfter l) ≡ true
   desk-fits = takes-fit l fresh a fresh-fits
 
-  pub desk-read : followerFrom (desk functions b l) ≡ record { ok = true; follower = after l }
-  desk-read = ap followerFrom desk-is ∙ follower-read-write (after l) desk-fits
+  pub desk-read : followerFrom (desk functions b l) ≡ record { ok = true; follower = followerAfter l }
+  desk-read = ap followerFrom desk-is ∙ follower-read-write (followerAfter l) desk-fits

@@ -7,25 +7,25 @@ use native.Mathlib.Omega.{arith}
 use lib.Dec.{ltb}
 use lib.ListN.{length}
 use lib.Seq.{sets}
-use Rattle.event.specs.declared.memory.Records.{Records}
+use Rattle.abstract_policy.specs.declared.state.Records.{Records}
+use Rattle.abstract_policy.specs.declared.outcome.Step.{Step}
+use Rattle.abstract_policy.specs.declared.outcome.SentPacket.{SentPacket}
+use Rattle.abstract_policy.specs.declared.outcome.SentPicture.{SentPicture}
 use Rattle.service.specs.Service.{openOf, answerOf}
 use Rattle.service.specs.declared.Service.{Service}
-use Rattle.service.specs.declared.Step.{Step}
 use Rattle.service.specs.declared.Stepped.{Stepped}
 use Rattle.send.specs.Send.{sendPacket, sendPicture}
-use Rattle.send.specs.declared.SentPacket.{SentPacket}
-use Rattle.send.specs.declared.SentPicture.{SentPicture}
 use Rattle.wire.specs.Bytes.{eventBytes, pictureBytes}
 use Rattle.wire_writer.specs.declared.Written.{Written}
+use Rattle.abstract_calls.specs.Called.{refusedCall}
+use Rattle.abstract_calls.specs.Lent.{rowsIn, writtenAs, writtenCall, packetCall, pictureCall}
+use Rattle.abstract_calls.specs.Calls.{ByteCall, openEvent, giveAnswer, readOrder, writePacket, writePicture, imageAfter, returned, bufferIn, bufferAfter}
+use Rattle.abstract_calls.specs.declared.Rows.{Rows}
+use Rattle.abstract_calls.proofs.Results.{order-low, closed-low, written-low}
 use Rattle.service_image.specs.Image.{serviceFrom}
 use Rattle.service_image.specs.declared.ReadService.{ReadService}
-use Rattle.calls.specs.Called.{refusedCall}
-use Rattle.calls.specs.Lent.{rowsIn, writtenAs, writtenCall, packetCall, pictureCall}
 use Rattle.calls.specs.Calls.{steppedAt, steppedCall, onService, writePacketCall, writePictureCall}
-use Rattle.calls.specs.declared.rows.Rows.{Rows}
-use Rattle.exported.specs.Calls.{ByteCall, openEvent, giveAnswer, readOrder, writePacket, writePicture, imageAfter, returned, bufferIn, bufferAfter}
 use Rattle.exported.specs.Ours.{functions}
-use Rattle.calls.proofs.Results.{order-low, closed-low, written-low}
 
 stepped-back : (b : List ℕ) (x : Step) (t : Service) → steppedAt b x t .number % 256 ≡ 0 → steppedAt b x t .bytes ≡ b
 stepped-back b (Step.Order o) t e = absurd (let q : _≡_ {A = ℕ} 1 0 = sym (order-low o) ∙ e in omega (arith, q))

@@ -13,10 +13,13 @@ use borrow.Author.Tests.{ltb-false}
 use Rattle.display.specs.declared.packet.EventPacket.{EventPacket}
 use Rattle.display.specs.declared.packet.Packet.{Packet}
 use Rattle.display.specs.declared.packet.Picture.{Picture}
-use Rattle.event.specs.declared.memory.Registration.{Registration}
+use Rattle.abstract_policy.specs.Policy as policy
+use Rattle.abstract_policy.specs.Policy.{Call}
+use Rattle.abstract_policy.specs.Returns.{packetTo, pictureTo}
+use Rattle.abstract_policy.specs.declared.state.Registration.{Registration}
+use Rattle.abstract_policy.specs.declared.outcome.SentPacket.{SentPacket}
+use Rattle.abstract_policy.specs.declared.outcome.SentPicture.{SentPicture}
 use Rattle.service.specs.declared.Service.{Service}
-use Rattle.send.specs.declared.SentPacket.{SentPacket}
-use Rattle.send.specs.declared.SentPicture.{SentPicture}
 use Rattle.wire.specs.Bytes.{packetBytes}
 use Rattle.wire.specs.Read.{readPacket}
 use Rattle.wire.specs.declared.packet.ReadPacket.{ReadPacket}
@@ -25,18 +28,16 @@ use Rattle.wire_writer.specs.declared.Written.{Written}
 use Rattle.link.proofs.Lists.{read-back}
 use Rattle.run.specs.Demands as run
 use Rattle.run.specs.Demands.{OnLink}
-use Rattle.run.specs.Policy as policy
-use Rattle.run.specs.Policy.{Call}
 use Rattle.run.specs.Run as runs
-use Rattle.run.specs.Run.{after, services, packetTo, pictureTo}
+use Rattle.run.specs.Run.{afterCall, services}
+use Rattle.abstract_calls.specs.Lent.{writtenAs, writtenCall, packetCall, pictureCall}
+use Rattle.abstract_calls.specs.Numbers.{refusedNumber, writtenNumber}
+use Rattle.abstract_calls.specs.Calls.{ByteCall, writePacket, writePicture, bufferAfter, images, CallsBytes, Writes}
+use Rattle.abstract_calls.specs.Definition.{inBuffer, callOf, callsOf, defined}
+use Rattle.abstract_calls.proofs.Results.{refused-low, written-length}
 use Rattle.service_image.specs.Image.{serviceBytes}
 use Rattle.invariant.proofs.Good.{Good}
-use Rattle.calls.specs.Lent.{writtenAs, writtenCall, packetCall, pictureCall}
-use Rattle.calls.specs.Numbers.{refusedNumber, writtenNumber}
-use Rattle.calls.proofs.Results.{refused-low, written-length}
-use Rattle.exported.specs.Calls.{ByteCall, writePacket, writePicture, bufferAfter, images, CallsBytes, Writes}
 use Rattle.exported.specs.Ours.{functions}
-use Rattle.run_image.specs.Definition.{inBuffer, callOf, callsOf, defined}
 use Rattle.run_image.proofs.Reached.{reached-equal, reached-returns, reached-buffers}
 
 refused-not : (n : ℕ) → refusedNumber n % 256 ≡ 3 → ⊥
@@ -59,9 +60,9 @@ pub bytes-left : (l m : List ByteCall) → CallsBytes (l ++ m) → CallsBytes l
 bytes-left [] m b = tt
 bytes-left (c ∷ l) m b = (b .0, bytes-left l m (b .1))
 
-wrote-right : (l m : List Call) (s : Service) (p : Packet) → runs.Wrote (services s l) m p → runs.Wrote s (l ++ m) p
+wrote-right : (l m : List Call) (s : Service) (p : Packet) → runs.HasSent (services s l) m p → runs.HasSent s (l ++ m) p
 wrote-right [] m s p w = w
-wrote-right (c ∷ l) m s p w = inr (wrote-right l m (after s c) p w)
+wrote-right (c ∷ l) m s p w = inr (wrote-right l m (afterCall s c) p w)
 
 module _ (s : Service) (good : Good s) (demands : run.Demands s) (calls : List ByteCall) (on : OnLink s (callsOf (s .registration) calls)) where
   abbrev g : Registration
@@ -73,21 +74,21 @@ module _ (s : Service) (good : Good s) (demands : run.Demands s) (calls : List B
     pub bytes : y ≡ packetBytes p
     pub read : readPacket y ≡ ReadPacket.Packet p
 
-  module _ (before after : List ByteCall) (b : CallsBytes before) where
+  module _ (before afterCall : List ByteCall) (b : CallsBytes before) where
     -- a write of the run: its packet is among what the run wrote
-    sent : (w : ByteCall) (c : Call) (p : Packet) (buffer y : List ℕ) → calls ≡ before ++ (w ∷ after) → callOf g w ≡ inBuffer buffer c →
-        runs.Writes (services s (callsOf g before)) c p → writtenCall (packetBytes p) buffer .number % 256 ≡ 3 →
+    sent : (w : ByteCall) (c : Call) (p : Packet) (buffer y : List ℕ) → calls ≡ before ++ (w ∷ afterCall) → callOf g w ≡ inBuffer buffer c →
+        runs.Sends (services s (callsOf g before)) c p → writtenCall (packetBytes p) buffer .number % 256 ≡ 3 →
         y ≡ take (writtenCall (packetBytes p) buffer .number / 256 % 256) (writtenCall (packetBytes p) buffer .bytes) → Sent y p
     sent w c p buffer y among is told e f = go (ltb (length buffer) 64) refl is e f
       where
         number : Bool → ℕ
         number t = writtenAs (cond t (Written.Refused 29) (Written.Length (length (packetBytes p))))
 
-        wrote : callOf g w ≡ c ∷ [] → runs.Wrote s (callsOf g calls) p
+        wrote : callOf g w ≡ c ∷ [] → runs.HasSent s (callsOf g calls) p
         wrote q =
-            subst (λ (l : List Call). runs.Wrote s l p) (sym (ap (callsOf g) among ∙ calls-on g before (w ∷ after)))
-            (wrote-right (callsOf g before) (callOf g w ++ callsOf g after) s p
-            (subst (λ (l : List Call). runs.Wrote (services s (callsOf g before)) (l ++ callsOf g after) p) (sym q) (inl told)))
+            subst (λ (l : List Call). runs.HasSent s l p) (sym (ap (callsOf g) among ∙ calls-on g before (w ∷ afterCall)))
+            (wrote-right (callsOf g before) (callOf g w ++ callsOf g afterCall) s p
+            (subst (λ (l : List Call). runs.HasSent (services s (callsOf g before)) (l ++ callsOf g afterCall) p) (sym q) (inl told)))
 
         go : (t : Bool) → ltb (length buffer) 64 ≡ t → callOf g w ≡ cond t [] (c ∷ []) → number t % 256 ≡ 3 →
             y ≡ take (number t / 256 % 256) (cond t buffer (sets buffer 0 (packetBytes p))) → Sent y p
@@ -97,7 +98,7 @@ module _ (s : Service) (good : Good s) (demands : run.Demands s) (calls : List B
             let k : y ≡ packetBytes p = z ∙ front (packetBytes p) buffer (packet-length p (on .source .fits p v)) (ltb-false (length buffer) 64 t) in
             record { written = v; bytes = k; read = read-back (on .source) p y v k }
 
-    pub packet-sent : (buffer y : List ℕ) → calls ≡ before ++ (writePacket buffer ∷ after) → Writes functions (images functions (serviceBytes s) before) (writePacket buffer) y →
+    pub packet-sent : (buffer y : List ℕ) → calls ≡ before ++ (writePacket buffer ∷ afterCall) → Writes functions (images functions (serviceBytes s) before) (writePacket buffer) y →
         (e : EventPacket) × (packetTo (defined g before) ≡ SentPacket.Packet e) × Sent y (Packet.Event e)
     packet-sent buffer y among w =
         go (packetTo (defined g before)) refl
@@ -113,7 +114,7 @@ module _ (s : Service) (good : Good s) (demands : run.Demands s) (calls : List B
         go (SentPacket.Packet e) q h z =
             (e, q, sent (writePacket buffer) policy.writePacket (Packet.Event e) buffer y among refl (e, reached-equal s good demands before b .packet ∙ q, refl) h z)
 
-    pub picture-sent : (buffer y : List ℕ) → calls ≡ before ++ (writePicture buffer ∷ after) → Writes functions (images functions (serviceBytes s) before) (writePicture buffer) y →
+    pub picture-sent : (buffer y : List ℕ) → calls ≡ before ++ (writePicture buffer ∷ afterCall) → Writes functions (images functions (serviceBytes s) before) (writePicture buffer) y →
         (v : Picture) × (pictureTo (defined g before) ≡ SentPicture.Picture v) × Sent y (Packet.Picture v)
     picture-sent buffer y among w =
         go (pictureTo (defined g before)) refl

@@ -1,2 +1,1 @@
-pub mod Definition
 pub mod Refused

@@ -1,31 +1,26 @@
 -- The packet of the event closed last, and the full picture of what is held; and what turns them back.
 use Prim.Native.Nat.{ℕ}
 use mathlib.Core.Bool.{Bool, cond}
-use mathlib.Core.List.{List, [], _∷_}
+use mathlib.Core.List.{List}
 use lib.Dec.{eqb}
 use Rattle.power_policy_interface.specs.Psu.{answerByte}
 use Rattle.power_policy_interface.specs.declared.service.event.Event.{Event}
 use Rattle.display.specs.Notices.{empty, pushed}
-use Rattle.display.specs.declared.Display.{Display}
 use Rattle.display.specs.declared.OptionAvailableConsumer.{OptionAvailableConsumer}
 use Rattle.display.specs.declared.notices.Notices as display
 use Rattle.display.specs.declared.packet.EventPacket.{EventPacket}
 use Rattle.display.specs.declared.packet.Picture.{Picture}
+use Rattle.abstract_policy.specs.Refusals.{firstRefused, packetConditions, pictureConditions}
+use Rattle.abstract_policy.specs.State.{displayOf}
+use Rattle.abstract_policy.specs.declared.outcome.SentPacket.{SentPacket}
+use Rattle.abstract_policy.specs.declared.outcome.SentPicture.{SentPicture}
 use Rattle.event.specs.declared.memory.DisconnectedNotice.{DisconnectedNotice}
-use Rattle.event.specs.declared.memory.InternalState.{InternalState}
 use Rattle.event.specs.declared.memory.Notices.{Notices}
 use Rattle.event.specs.declared.memory.ProviderNotice.{ProviderNotice}
 use Rattle.event.specs.declared.memory.UnconstrainedNotice.{UnconstrainedNotice}
 use Rattle.event.specs.declared.phase.Phase.{Phase}
-use Rattle.service.specs.Refusals.{firstRefused, isOpen}
+use Rattle.service.specs.Refusals.{isOpen}
 use Rattle.service.specs.declared.Service.{Service}
-use Rattle.send.specs.declared.SentPacket.{SentPacket}
-use Rattle.send.specs.declared.SentPicture.{SentPicture}
-
--- consumer, unconstrained figures and tracked providers; the power state is the service's own
-abbrev pub displayOf : InternalState → Display
-displayOf s =
-    record { consumer = s .«current_consumer_state»; unconstrained = s .unconstrained; providers = s .«connected_providers» }
 
 -- the notices in their order
 
@@ -51,30 +46,24 @@ noticesOf n =
     pushUnconstrained (pushConnected (pushDisconnected (pushProvider empty (n .provider)) (n .disconnected)) (n .connected)) (n .unconstrained)
 
 -- the answer byte; an open event has none yet, and is refused
-abbrev pub answerOf : Phase → ℕ
-answerOf (Phase.Closed a) = answerByte a
-answerOf (Phase.Leaving i p f) = 0
-answerOf (Phase.Switching l old f new) = 0
-answerOf (Phase.Connecting s new) = 0
-answerOf (Phase.Providing p c) = 0
+abbrev pub answerByteOf : Phase → ℕ
+answerByteOf (Phase.Closed a) = answerByte a
+answerByteOf (Phase.Leaving i p f) = 0
+answerByteOf (Phase.Switching l old f new) = 0
+answerByteOf (Phase.Connecting s new) = 0
+answerByteOf (Phase.Providing p c) = 0
 
 abbrev pub packetOf : Service → EventPacket
 packetOf s =
-    record { number = s .number; answer = answerOf (s .phase); orders = s .orders; notices = noticesOf (s .memory .notices) }
+    record { number = s .number; answer = answerByteOf (s .phase); orders = s .orders; notices = noticesOf (s .memory .notices) }
 
 abbrev pub pictureOf : Service → Picture
 pictureOf s = record { number = s .number; display = displayOf (s .memory .state) }
 
 -- 25: while an event is open; 27: before event 1
 
-abbrev pub packetConditions : Bool → ℕ → List (Bool × ℕ)
-packetConditions waits number = (waits, 25) ∷ (eqb number 0, 27) ∷ []
-
 abbrev pub packetRefusals : Service → List (Bool × ℕ)
 packetRefusals s = packetConditions (isOpen (s .phase)) (s .number)
-
-abbrev pub pictureConditions : Bool → List (Bool × ℕ)
-pictureConditions waits = (waits, 25) ∷ []
 
 abbrev pub pictureRefusals : Service → List (Bool × ℕ)
 pictureRefusals s = pictureConditions (isOpen (s .phase))

@@ -1,11 +1,11 @@
 // What the service has for the desk: the packet of the event closed last, and the full picture.
-use display::Display;
+use abstract_policy::outcome::SentPacket;
+use abstract_policy::outcome::SentPicture;
 use display::OptionAvailableConsumer;
 use display::notices::Notices;
 use display::packet::EventPacket;
 use display::packet::Picture;
 use event::memory::DisconnectedNotice;
-use event::memory::InternalState;
 use event::memory::ProviderNotice;
 use event::memory::UnconstrainedNotice;
 use event::phase::Phase;
@@ -13,33 +13,7 @@ use power_policy_interface::psu;
 use power_policy_interface::service::event::Event;
 use service::Service;
 ghost use mathlib.Core.Path.{_≡_};
-ghost use Rattle.send.specs.Send.{displayOf, pushProvider, pushDisconnected, pushConnected, pushUnconstrained, noticesOf, answerOf, packetOf, pictureOf, sendPacket, sendPicture};
-
-// The packet wanted, or the number of the condition that turns it back.
-pub enum SentPacket {
-    Packet(EventPacket),
-    Refused(u8),
-}
-
-// The picture wanted, or the number of the condition that turns it back.
-pub enum SentPicture {
-    Picture(Picture),
-    Refused(u8),
-}
-
-// Consumer, unconstrained figures and tracked providers.
-pub fn display_of(state: InternalState) -> Display
-    ensures { λ r. ⌜ r ≡ displayOf state ⌝ }
-{
-    let consumer = state.current_consumer_state;
-    let unconstrained = state.unconstrained;
-    let providers = state.connected_providers;
-    Display {
-        consumer,
-        unconstrained,
-        providers,
-    }
-}
+ghost use Rattle.send.specs.Send.{pushProvider, pushDisconnected, pushConnected, pushUnconstrained, noticesOf, answerByteOf, packetOf, pictureOf, sendPacket, sendPicture};
 
 fn push_provider(list: Notices, notice: ProviderNotice) -> Notices
     ensures { λ r. ⌜ r ≡ pushProvider list notice ⌝ }
@@ -99,7 +73,7 @@ pub fn notices_of(notices: event::memory::Notices) -> Notices
 
 // The answer byte of the event closed last.
 fn answer_byte(phase: Phase) -> u8
-    ensures { λ r. ⌜ r ≡ answerOf phase ⌝ }
+    ensures { λ r. ⌜ r ≡ answerByteOf phase ⌝ }
 {
     match phase {
         Phase::Closed(answer) => answer.byte(),
@@ -144,7 +118,7 @@ fn picture_of(service: Service) -> Picture
     let state = memory.state;
     Picture {
         number: service.number,
-        display: display_of(state),
+        display: state.display(),
     }
 }
 

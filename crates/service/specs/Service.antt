@@ -1,33 +1,29 @@
 -- The service between calls: what a start, an event and an answer bring about, and the service after it.
 use Prim.Native.Nat.{ℕ, suc}
-use mathlib.Core.Bool.{Bool, true, false, cond}
-use mathlib.Core.List.{List, [], _∷_}
+use mathlib.Core.Bool.{cond}
 use lib.Dec.{ltb, eqb}
-use lib.ListN.{getD}
-use Rattle.power_policy_interface.specs.Capability.{disconnectFrom}
-use Rattle.power_policy_interface.specs.Psu.{answerFrom}
-use Rattle.power_policy_interface.specs.declared.capability.DisconnectFlags.{DisconnectFlags}
-use Rattle.power_policy_interface.specs.declared.capability.OptionDisconnectFlags.{OptionDisconnectFlags}
-use Rattle.power_policy_interface.specs.declared.psu.OptionResult.{OptionResult}
 use Rattle.power_policy_interface.specs.declared.psu.Result.{Result}
 use Rattle.power_policy_interface.specs.declared.psu.event.EventData.{EventData}
 use Rattle.power_policy_service.specs.declared.config.Config.{Config}
 use Rattle.power_policy_service.specs.declared.config.OptionConfig.{OptionConfig}
-use Rattle.event.specs.Memory.{freshState, noNotices}
+use Rattle.abstract_policy.specs.State.{freshState}
+use Rattle.abstract_policy.specs.Refusals.{firstRefused, startRefusals}
+use Rattle.abstract_policy.specs.Given.{eventOf, resultOf}
+use Rattle.abstract_policy.specs.declared.state.Records.{Records}
+use Rattle.abstract_policy.specs.declared.state.Registration.{Registration}
+use Rattle.abstract_policy.specs.declared.order.OptionOrder.{OptionOrder}
+use Rattle.abstract_policy.specs.declared.order.Order.{Order}
+use Rattle.abstract_policy.specs.declared.outcome.Step.{Step}
+use Rattle.event.specs.Memory.{noNotices}
 use Rattle.event.specs.Phase.{orderOf}
 use Rattle.event.specs.declared.memory.Memory.{Memory}
-use Rattle.event.specs.declared.memory.Records.{Records}
-use Rattle.event.specs.declared.memory.Registration.{Registration}
-use Rattle.event.specs.declared.phase.OptionOrder.{OptionOrder}
-use Rattle.event.specs.declared.phase.Order.{Order}
 use Rattle.event.specs.declared.phase.Phase.{Phase}
 use Rattle.event.specs.declared.phase.Turn.{Turn}
 use Rattle.update.specs.Update.{remember, closed}
-use Rattle.process.specs.Process.{noReason, processOf, answeredOf}
-use Rattle.service.specs.Refusals.{firstRefused, startRefusals, openRefusals, answerRefusals}
+use Rattle.process.specs.Process.{processOf, answeredOf}
+use Rattle.service.specs.Refusals.{openRefusals, answerRefusals}
 use Rattle.service.specs.declared.Service.{Service}
 use Rattle.service.specs.declared.Started.{Started}
-use Rattle.service.specs.declared.Step.{Step}
 use Rattle.service.specs.declared.Stepped.{Stepped}
 
 -- g registered, event n closed last, k orders given
@@ -92,28 +88,6 @@ moved g n k t = movedBy (orderOf (t .phase)) g n k t
 
 -- open
 
-abbrev pub flagsIn : OptionDisconnectFlags → DisconnectFlags
-flagsIn OptionDisconnectFlags.None = noReason
-flagsIn (OptionDisconnectFlags.Some f) = f
-
--- 0 none, 1 Detached, then as written, to 6 Reset; above 6 has been refused
-abbrev pub flagsOf : ℕ → DisconnectFlags
-flagsOf detail = flagsIn (disconnectFrom detail)
-
--- 0 to 4 as psu/event.rs writes them
-abbrev pub events : ℕ → List EventData
-events detail =
-    EventData.Attached
-    ∷ EventData.UpdatedConsumerCapability
-    ∷ EventData.RequestedProviderCapability
-    ∷ EventData.Disconnected (flagsOf detail)
-    ∷ EventData.Detached
-    ∷ []
-
--- above has been refused
-abbrev pub eventOf : ℕ → ℕ → EventData
-eventOf kind detail = getD (events detail) kind EventData.Attached
-
 abbrev pub clearedOf : Service → Memory
 clearedOf s = remember (s .memory .state) noNotices
 
@@ -134,14 +108,6 @@ openOf s kind device detail r =
 abbrev pub orderIn : OptionOrder → Order
 orderIn OptionOrder.None = Order.Wait
 orderIn (OptionOrder.Some o) = o
-
-abbrev pub resultIn : OptionResult → Result
-resultIn OptionResult.None = Result.Ok
-resultIn (OptionResult.Some a) = a
-
--- 0 done, 1 to 10 the error; above 10 has been refused
-abbrev pub resultOf : ℕ → Result
-resultOf a = resultIn (answerFrom a)
 
 abbrev pub answeredBy : Service → Order → Result → Records → Stepped
 answeredBy s o a r =

@@ -4,13 +4,14 @@ pub mod refusals;
 use crate::refusals::answer_refusal;
 use crate::refusals::is_waiting;
 use crate::refusals::open_refusal;
-use event::memory::InternalState;
+use abstract_policy::order::OptionOrder;
+use abstract_policy::order::Order;
+use abstract_policy::outcome::Step;
+use abstract_policy::state::InternalState;
+use abstract_policy::state::Records;
+use abstract_policy::state::Registration;
 use event::memory::Memory;
 use event::memory::Notices;
-use event::memory::Records;
-use event::memory::Registration;
-use event::phase::OptionOrder;
-use event::phase::Order;
 use event::phase::Phase;
 use event::phase::Turn;
 use power_policy_interface::capability::DisconnectFlags;
@@ -23,8 +24,10 @@ use process::answered;
 use process::process_psu_event;
 ghost use mathlib.Core.Path.{_≡_};
 ghost use Prim.Native.Nat.{_<_};
-ghost use Rattle.service.specs.Refusals.{firstRefused, isOpen, openRefusals};
-ghost use Rattle.service.specs.Service.{serviceWith, freshTurn, freshService, startOf, refused, flagsOf, eventOf, increment, answerIn, closedBy, orderedBy, moved, clearedOf, openedOf, openOf, orderIn, resultOf, answeredBy, answerOf};
+ghost use Rattle.abstract_policy.specs.Refusals.{firstRefused};
+ghost use Rattle.abstract_policy.specs.Given.{flagsOf, eventOf, resultOf};
+ghost use Rattle.service.specs.Refusals.{isOpen, openRefusals};
+ghost use Rattle.service.specs.Service.{serviceWith, freshTurn, freshService, startOf, refused, increment, answerIn, closedBy, orderedBy, moved, clearedOf, openedOf, openOf, orderIn, answeredBy, answerOf};
 
 // The service between calls: what is registered, the number of the event closed last, what is held with the notices of the open
 // or last closed event, how many orders that event has given, and where it stands.
@@ -34,16 +37,6 @@ pub struct Service {
     pub memory: Memory,
     pub orders: u8,
     pub phase: Phase,
-}
-
-// What a call brings about.
-pub enum Step {
-    // An order, which the next answer is to.
-    Order(Order),
-    // The event is closed with this answer, after so many orders.
-    Closed(psu::Result, u8),
-    // The call is turned back by the condition of this number.
-    Refused(u8),
 }
 
 // What a call brings about, and the service after it.

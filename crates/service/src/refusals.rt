@@ -1,9 +1,9 @@
 // What turns a call back: each numbered condition of document 01 on what it looks at, and the lowest number that applies.
-use event::phase::OptionOrder;
-use event::phase::Order;
+use abstract_policy::order::OptionOrder;
+use abstract_policy::order::Order;
 ghost use mathlib.Core.Path.{_≡_};
 ghost use Prim.Native.Nat.{_<_};
-ghost use Rattle.service.specs.Refusals.{firstRefused, notRegistered, unknownEvent, numbersUsed, openConditions, waiting, otherError, unknownAnswer, answerConditions};
+ghost use Rattle.abstract_policy.specs.Refusals.{firstRefused, notRegistered, unknownEvent, numbersUsed, openConditions, waiting, otherError, unknownAnswer, answerConditions};
 
 // 23
 fn not_registered(ports: u8, chargers: u8, kind: u32, device: u32) -> bool

@@ -1,25 +1,24 @@
 // The calls on the service's image: each reads the image, calls the service by value, and writes the image back. A call that is turned back leaves every byte
 // as it was.
+use abstract_calls::Rows;
+use abstract_policy::order::OptionOrder;
+use abstract_policy::outcome::SentPacket;
+use abstract_policy::outcome::SentPicture;
+use abstract_policy::outcome::Step;
 use calls::numbers;
-use calls::rows::Rows;
 use calls::rows::read_rows;
-use event::phase::OptionOrder;
 use event::phase::Phase;
 use power_policy_service::config::OptionConfig;
-use send::SentPacket;
-use send::SentPicture;
 use service::Service;
 use service::Started;
-use service::Step;
 use service::Stepped;
 use service::answer_in;
 use service_image::ReadService;
 use wire_writer::Written;
 ghost use mathlib.Core.Path.{_≡_};
-ghost use Rattle.event.specs.Phase.{orderOf};
-ghost use Rattle.service_image.specs.Image.{serviceFrom};
 ghost use Rattle.service.specs.Service.{openOf, answerOf};
-ghost use Rattle.calls.specs.Lent.{rowsIn, writtenAs, packetCall, pictureCall};
+ghost use Rattle.abstract_calls.specs.Lent.{writtenAs, packetCall, pictureCall};
+ghost use Rattle.service_image.specs.Image.{serviceFrom};
 ghost use Rattle.calls.specs.Calls.{startedCall, startCall, steppedCall, withRows, onService, openCall, answerCall, standNumber, orderCall, writePacketCall, writePictureCall};
 
 // Writes the image of the service after a call that is not turned back.

@@ -5,7 +5,7 @@ use mathlib.Core.List.{List, [], _∷_}
 use lib.Dec.{eqb, ltb}
 use lib.ListN.{getD}
 use Rattle.power_policy_interface.specs.Capability.{disconnectByte, disconnectFrom}
-use Rattle.power_policy_interface.specs.Psu.{kindNumber, answerByte, answerFrom}
+use Rattle.power_policy_interface.specs.Psu.{answerByte, answerFrom, mismatchOf, expectedByte, actualByte}
 use Rattle.power_policy_interface.specs.declared.capability.OptionConsumerPowerCapability.{OptionConsumerPowerCapability}
 use Rattle.power_policy_interface.specs.declared.capability.OptionDisconnectFlags.{OptionDisconnectFlags}
 use Rattle.power_policy_interface.specs.declared.capability.OptionProviderPowerCapability.{OptionProviderPowerCapability}
@@ -49,30 +49,9 @@ standingBytes g = g .kind ∷ g .a ∷ g .b ∷ g .c ∷ groupBytes (g .contract
 
 -- writing
 
--- what an InvalidState carries
-abbrev pub mismatchOf : Error → OptionMismatch
-mismatchOf Error.InvalidDevice = OptionMismatch.None
-mismatchOf Error.CannotProvide = OptionMismatch.None
-mismatchOf Error.CannotConsume = OptionMismatch.None
-mismatchOf (Error.InvalidState m) = m
-mismatchOf Error.InvalidResponse = OptionMismatch.None
-mismatchOf Error.Busy = OptionMismatch.None
-mismatchOf Error.Timeout = OptionMismatch.None
-mismatchOf Error.Bus = OptionMismatch.None
-mismatchOf Error.Charger = OptionMismatch.None
-mismatchOf Error.Failed = OptionMismatch.None
-
 abbrev pub mismatchIn : Result → OptionMismatch
 mismatchIn Result.Ok = OptionMismatch.None
 mismatchIn (Result.Err e) = mismatchOf e
-
-abbrev pub expectedByte : OptionMismatch → ℕ
-expectedByte OptionMismatch.None = 0
-expectedByte (OptionMismatch.Some m) = m .expected
-
-abbrev pub actualByte : OptionMismatch → ℕ
-actualByte OptionMismatch.None = 0
-actualByte (OptionMismatch.Some m) = kindNumber (m .actual)
 
 -- 0 the PSU, i + 1 charger i; no console has a charger 255
 abbrev pub leaverByte : Leaver → ℕ

@@ -5,10 +5,10 @@ use mathlib.Core.Bool.{cond}
 use mathlib.Core.List.{List, [], _∷_, _++_}
 use lib.Dec.{eqb}
 use lib.ListN.{getD}
-use Rattle.image.specs.Quad.{quadAt, quadBytes, numberQuad, numberFrom, powerQuad, powerFrom}
 use Rattle.power_policy_service.specs.declared.config.OptionMilliwatts.{OptionMilliwatts}
 use Rattle.power_policy_service.specs.declared.config.ReadMinimum.{ReadMinimum}
-use Rattle.event.specs.declared.memory.Registration.{Registration}
+use Rattle.abstract_policy.specs.declared.state.Registration.{Registration}
+use Rattle.image.specs.Quad.{quadAt, quadBytes, numberQuad, numberFrom, powerQuad, powerFrom}
 use Rattle.service_groups.specs.declared.registration.ReadRegistration.{ReadRegistration}
 use Rattle.service_groups.specs.declared.registration.Registered.{Registered}
 

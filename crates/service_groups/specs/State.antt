@@ -2,12 +2,12 @@
 use Prim.Native.Nat.{ℕ}
 use mathlib.Core.List.{List, [], _∷_, _++_}
 use lib.ListN.{getD}
-use Rattle.display.specs.declared.Display.{Display}
+use Rattle.power_policy_service.specs.declared.provider.PowerState.{PowerState}
+use Rattle.abstract_policy.specs.State.{displayOf}
+use Rattle.abstract_policy.specs.declared.state.InternalState.{InternalState}
 use Rattle.image.specs.Shown.{shownBytes, displayShown, displayFrom}
 use Rattle.image.specs.declared.shown.ReadDisplay.{ReadDisplay}
 use Rattle.image.specs.declared.shown.Shown.{Shown}
-use Rattle.power_policy_service.specs.declared.provider.PowerState.{PowerState}
-use Rattle.event.specs.declared.memory.InternalState.{InternalState}
 use Rattle.service_groups.specs.declared.state.ReadPowerState.{ReadPowerState}
 use Rattle.service_groups.specs.declared.state.ReadState.{ReadState}
 
@@ -16,14 +16,6 @@ use Rattle.service_groups.specs.declared.state.ReadState.{ReadState}
 abbrev pub powerByte : PowerState → ℕ
 powerByte PowerState.Unlimited = 0
 powerByte PowerState.Limited = 1
-
-abbrev pub displayed : InternalState → Display
-displayed s =
-    record {
-      consumer = s .«current_consumer_state»;
-      unconstrained = s .unconstrained;
-      providers = s .«connected_providers»;
-    }
 
 -- reading
 
@@ -50,4 +42,4 @@ stateFrom g b = stateWith (displayFrom g) (powerStateFrom b)
 
 -- bytes 24 to 36: what is held, and the orders given
 abbrev pub heldBytes : InternalState → ℕ → List ℕ
-heldBytes s orders = shownBytes (displayShown (displayed s)) ++ (powerByte (s .«current_provider_state») ∷ orders ∷ [])
+heldBytes s orders = shownBytes (displayShown (displayOf s)) ++ (powerByte (s .«current_provider_state») ∷ orders ∷ [])

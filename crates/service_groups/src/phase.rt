@@ -15,7 +15,7 @@ use power_policy_interface::psu::StateKind;
 use records::group::Group;
 ghost use mathlib.Core.Path.{_≡_};
 ghost use lib.Seq.{sets};
-ghost use Rattle.service_groups.specs.Phase.{phaseBytes, standingAt, standingBytes, mismatchOf, mismatchIn, expectedByte, actualByte, leaverByte, stageByte, stageCharger, closedStanding, contractOf, standing, kindFrom, invalidFrom, resultFrom, closedFrom, leavingFrom, newFrom, leaverFrom, switchingFrom, stageFrom, connectingFrom, providingFrom, phaseFrom};
+ghost use Rattle.service_groups.specs.Phase.{phaseBytes, standingAt, standingBytes, mismatchIn, leaverByte, stageByte, stageCharger, closedStanding, contractOf, standing, kindFrom, invalidFrom, resultFrom, closedFrom, leavingFrom, newFrom, leaverFrom, switchingFrom, stageFrom, connectingFrom, providingFrom, phaseFrom};
 
 // Ten bytes by value.
 pub struct Standing {
@@ -44,51 +44,12 @@ pub enum ReadPhase {
     Read(Phase),
 }
 
-// What an InvalidState carries.
-fn mismatch_of(e: psu::Error) -> psu::OptionMismatch
-    ensures { λ r. ⌜ r ≡ mismatchOf e ⌝ }
-{
-    match e {
-        psu::Error::InvalidDevice => psu::OptionMismatch::None,
-        psu::Error::CannotProvide => psu::OptionMismatch::None,
-        psu::Error::CannotConsume => psu::OptionMismatch::None,
-        psu::Error::InvalidState(m) => m,
-        psu::Error::InvalidResponse => psu::OptionMismatch::None,
-        psu::Error::Busy => psu::OptionMismatch::None,
-        psu::Error::Timeout => psu::OptionMismatch::None,
-        psu::Error::Bus => psu::OptionMismatch::None,
-        psu::Error::Charger => psu::OptionMismatch::None,
-        psu::Error::Failed => psu::OptionMismatch::None,
-    }
-}
-
 fn mismatch_in(r: psu::Result) -> psu::OptionMismatch
     ensures { λ q. ⌜ q ≡ mismatchIn r ⌝ }
 {
     match r {
         psu::Result::Ok => psu::OptionMismatch::None,
-        psu::Result::Err(e) => mismatch_of(e),
-    }
-}
-
-fn expected_byte(m: psu::OptionMismatch) -> u8
-    ensures { λ r. ⌜ r ≡ expectedByte m ⌝ }
-{
-    match m {
-        psu::OptionMismatch::None => 0,
-        psu::OptionMismatch::Some(x) => x.expected,
-    }
-}
-
-fn actual_byte(m: psu::OptionMismatch) -> u8
-    ensures { λ r. ⌜ r ≡ actualByte m ⌝ }
-{
-    match m {
-        psu::OptionMismatch::None => 0,
-        psu::OptionMismatch::Some(x) => {
-            let actual = x.actual;
-            actual.number()
-        }
+        psu::Result::Err(e) => e.mismatch(),
     }
 }
 
@@ -141,8 +102,8 @@ fn closed_standing(r: psu::Result) -> Standing
     Standing {
         kind: 0,
         a: r.byte(),
-        b: expected_byte(m),
-        c: actual_byte(m),
+        b: m.expected(),
+        c: m.actual(),
         contract,
     }
 }

@@ -1,5 +1,5 @@
 // What is registered, as 19 bytes.
-use event::memory::Registration;
+use abstract_policy::state::Registration;
 use image::place;
 use image::quad::Quad;
 use power_policy_service::config::Config;

@@ -1,6 +1,5 @@
 // What is held between events, as 12 bytes: the display and the power state.
-use display::Display;
-use event::memory::InternalState;
+use abstract_policy::state::InternalState;
 use image::place;
 use image::shown::ReadDisplay;
 use image::shown::Shown;
@@ -9,7 +8,7 @@ ghost use mathlib.Core.Path.{_≡_};
 ghost use lib.ListN.{getD};
 ghost use lib.Seq.{sets};
 ghost use Rattle.image.specs.Shown.{shownAt};
-ghost use Rattle.service_groups.specs.State.{heldBytes, powerByte, displayed, powerStateFrom, stateFrom};
+ghost use Rattle.service_groups.specs.State.{heldBytes, powerByte, powerStateFrom, stateFrom};
 
 // What reading a power state finds.
 pub enum ReadPowerState {
@@ -43,20 +42,6 @@ fn power_state(b: u8) -> ReadPowerState
     }
 }
 
-// The part of the state that a display shows.
-fn displayed(s: InternalState) -> Display
-    ensures { λ r. ⌜ r ≡ displayed s ⌝ }
-{
-    let consumer = s.current_consumer_state;
-    let unconstrained = s.unconstrained;
-    let providers = s.connected_providers;
-    Display {
-        consumer,
-        unconstrained,
-        providers,
-    }
-}
-
 // Bytes 24 to 35; refused for bytes that no state is written as.
 pub fn read_state(s: &[u8]) -> ReadState
     ensures { λ r. ⌜ r ≡ stateFrom (shownAt (now (s .entry)) 24) (getD (now (s .entry)) 35 0) ⌝ }
@@ -83,7 +68,7 @@ pub fn put_held(image: &mut [u8], s: InternalState, orders: u8)
     ensures { λ r. ⌜ now (image .exit) ≡ sets (now (image .entry)) 24 (heldBytes s orders) ⌝ }
 {
     let power = s.current_provider_state;
-    let a = Shown::of_display(displayed(s)).bytes();
+    let a = Shown::of_display(s.display()).bytes();
     let b = [power_byte(power), orders];
     place::put(image, 24, &a);
     place::put(image, 35, &b);

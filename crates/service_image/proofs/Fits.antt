@@ -6,12 +6,12 @@ use Prim.Native.Nat.{ℕ, _≤_}
 use native.Mathlib.Omega.{arith}
 use lib.Dec.{leb}
 use borrow.Author.Tests.{le-leb, leb-true}
+use Rattle.power_policy_interface.specs.Capability.{capabilityFits}
 use Rattle.power_policy_interface.specs.declared.capability.PowerCapability.{PowerCapability}
 use Rattle.display.specs.declared.OptionAvailableConsumer.{OptionAvailableConsumer}
+use Rattle.wire.proofs.ReadWrite.{and-left, and-right}
 use Rattle.image.proofs.Quads.{Within}
 use Rattle.image.proofs.Consumers.{ConsumerWithin}
-use Rattle.wire.specs.WellFormed.{capabilityFits}
-use Rattle.wire.proofs.ReadWrite.{and-left, and-right}
 use Rattle.service_image.specs.Typed.{ConsumerTyped}
 use Rattle.service_image.specs.WellFormed.{consumerFits}
 use borrow.Author.Tests.{ltb-true}

@@ -8,8 +8,8 @@ use native.Mathlib.Omega.{arith}
 use lib.Dec.{eqb, leb, ltb}
 use lib.ListN.{getD}
 use borrow.Author.Tests.{eqb-true, ne-eqb, leb-true, ltb-true, lt-ltb}
-use Rattle.power_policy_interface.specs.Capability.{disconnectByte, disconnectFrom, reasonByte}
-use Rattle.power_policy_interface.specs.Psu.{kindNumber, answerByte, answerFrom, errorByte}
+use Rattle.power_policy_interface.specs.Capability.{disconnectByte, disconnectFrom, reasonByte, capabilityFits}
+use Rattle.power_policy_interface.specs.Psu.{kindNumber, answerByte, answerFrom, errorByte, mismatchOf, expectedByte, actualByte}
 use Rattle.power_policy_interface.specs.declared.capability.DisconnectFlags.{DisconnectFlags}
 use Rattle.power_policy_interface.specs.declared.capability.DisconnectReason.{DisconnectReason}
 use Rattle.power_policy_interface.specs.declared.capability.OptionConsumerPowerCapability.{OptionConsumerPowerCapability}
@@ -28,21 +28,20 @@ use Rattle.records.specs.declared.group.Group.{Group}
 use Rattle.records.proofs.Groups.{consumer-back, consumer-written, provider-back, provider-written}
 use Rattle.display.specs.declared.AvailableConsumer.{AvailableConsumer}
 use Rattle.display.specs.declared.OptionAvailableConsumer.{OptionAvailableConsumer}
-use Rattle.image.specs.Tagged.{noGroup}
-use Rattle.image.proofs.Places.{Below, one}
-use Rattle.image.proofs.Consumers.{GroupBytes, group-bytes, empty-bytes, consumer-bytes, provider-bytes, consumer-within, provider-within, no-group}
 use Rattle.event.specs.declared.phase.Leaver.{Leaver}
 use Rattle.event.specs.declared.phase.Phase.{Phase}
 use Rattle.event.specs.declared.phase.Stage.{Stage}
-use Rattle.wire.specs.WellFormed.{capabilityFits}
 use Rattle.wire.proofs.ReadWrite.{and-left, and-right}
-use Rattle.service_groups.specs.Phase.{standingAt, standingBytes, mismatchIn, mismatchOf, expectedByte, actualByte, leaverByte, stageByte, stageCharger, contractOf, standing, kindFrom, mismatchWith, invalidFrom, resultFrom, closedWith, leavingWith, newWith, newFrom, leaverFrom, switchingWith, stageFrom, connectingWith, providingWith, phases, phaseFrom}
-use Rattle.service_image.specs.Typed.{PhaseTyped}
-use Rattle.service_image.specs.WellFormed.{mismatchFits, errorFits, resultFits, leaverFits, stageFits, phaseFits}
+use Rattle.image.specs.Tagged.{noGroup}
+use Rattle.image.proofs.Places.{Below, one}
+use Rattle.image.proofs.Consumers.{GroupBytes, group-bytes, empty-bytes, consumer-bytes, provider-bytes, consumer-within, provider-within, no-group}
+use Rattle.service_groups.specs.Phase.{standingAt, standingBytes, mismatchIn, leaverByte, stageByte, stageCharger, contractOf, standing, kindFrom, mismatchWith, invalidFrom, resultFrom, closedWith, leavingWith, newWith, newFrom, leaverFrom, switchingWith, stageFrom, connectingWith, providingWith, phases, phaseFrom}
 use Rattle.service_groups.specs.declared.phase.ReadKind.{ReadKind}
 use Rattle.service_groups.specs.declared.phase.ReadPhase.{ReadPhase}
 use Rattle.service_groups.specs.declared.phase.ReadStage.{ReadStage}
 use Rattle.service_groups.specs.declared.phase.Standing.{Standing}
+use Rattle.service_image.specs.Typed.{PhaseTyped}
+use Rattle.service_image.specs.WellFormed.{mismatchFits, errorFits, resultFits, leaverFits, stageFits, phaseFits}
 use Rattle.service_image.proofs.Fits.{fits, within}
 
 pub record StandingBytes (g : Standing) : Type 0 where

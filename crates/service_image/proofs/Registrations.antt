@@ -8,18 +8,18 @@ use mathlib.Core.List.{List}
 use lib.Dec.{eqb, leb}
 use borrow.Author.Tests.{eqb-true, leb-true}
 use Rattle.records.specs.Row.{AllBytes}
+use Rattle.power_policy_service.specs.Config.{MinimumFits, ConfigFits}
+use Rattle.power_policy_service.specs.declared.config.OptionMilliwatts.{OptionMilliwatts}
+use Rattle.power_policy_service.specs.declared.config.ReadMinimum.{ReadMinimum}
+use Rattle.abstract_policy.specs.declared.state.Registration.{Registration}
+use Rattle.wire.proofs.ReadWrite.{and-left, and-right}
 use Rattle.image.specs.Quad.{numberQuad, numberFrom, powerFrom}
 use Rattle.image.proofs.Places.{Below, none, one, both}
 use Rattle.image.proofs.Quads.{QuadBytes, quad-at, quad-bytes, number-back, number-written, number-within, number-bytes, power-back, power-written, power-within, power-bytes}
-use Rattle.power_policy_service.specs.declared.config.OptionMilliwatts.{OptionMilliwatts}
-use Rattle.power_policy_service.specs.declared.config.ReadMinimum.{ReadMinimum}
-use Rattle.event.specs.declared.memory.Registration.{Registration}
 use Rattle.service_groups.specs.Registration.{registeredAt, registeredBytes, presence, figure, registered, minimumRead, registrationWith, registrationFrom}
-use Rattle.service_image.specs.Typed.{MilliwattsTyped, ConfigTyped}
-use Rattle.service_image.specs.WellFormed.{registrationFits}
 use Rattle.service_groups.specs.declared.registration.ReadRegistration.{ReadRegistration}
 use Rattle.service_groups.specs.declared.registration.Registered.{Registered}
-use Rattle.wire.proofs.ReadWrite.{and-left, and-right}
+use Rattle.service_image.specs.WellFormed.{registrationFits}
 use Rattle.service_image.proofs.Fits.{fits, within}
 
 pub record RegisteredBytes (g : Registered) : Type 0 where
@@ -74,11 +74,11 @@ minimum-read zero n m q = no-minimum n m (eqb n 0) refl q
 minimum-read (suc zero) n m q = a-minimum n m q
 minimum-read (suc (suc p)) n m q = absurd (let z : _≡_ {A = ℕ} 0 1 = cc in omega arith)
 
-minimum-typed : (m : OptionMilliwatts) → figure m ≤ 4294967295 → MilliwattsTyped m
+minimum-typed : (m : OptionMilliwatts) → figure m ≤ 4294967295 → MinimumFits m
 minimum-typed OptionMilliwatts.None h = tt
 minimum-typed (OptionMilliwatts.Some n) h = h
 
-figure-typed : (m : OptionMilliwatts) → MilliwattsTyped m → figure m ≤ 4294967295
+figure-typed : (m : OptionMilliwatts) → MinimumFits m → figure m ≤ 4294967295
 figure-typed OptionMilliwatts.None h = omega arith
 figure-typed (OptionMilliwatts.Some n) h = h
 
@@ -98,7 +98,7 @@ registration-back g =
       power-back (c .«provider_limited»),
     )
 
-pub registration-bytes : (g : Registration) → registrationFits g ≡ true → ConfigTyped (g .config) → RegisteredBytes (registered g)
+pub registration-bytes : (g : Registration) → registrationFits g ≡ true → ConfigFits (g .config) → RegisteredBytes (registered g)
 registration-bytes g e t =
     let c = g .config in
     let m = c .«min_consumer_threshold_mw» in
@@ -117,7 +117,7 @@ registration-bytes g e t =
 -- what was read was written so, and is within its types
 pub record Read (g : Registered) (r : Registration) : Type 0 where
   pub written : g ≡ registered r
-  pub typed : ConfigTyped (r .config)
+  pub typed : ConfigFits (r .config)
 
 abbrev made : Registered → OptionMilliwatts → Registration
 made g m =

@@ -9,6 +9,10 @@ use lib.Dec.{eqb, leb}
 use lib.ListN.{length, getD}
 use borrow.Author.Tests.{eqb-true, leb-true}
 use Rattle.records.specs.Row.{AllBytes}
+use Rattle.abstract_policy.specs.State.{displayOf}
+use Rattle.event.specs.declared.memory.Notices.{Notices}
+use Rattle.service.specs.declared.Service.{Service}
+use Rattle.wire.proofs.ReadWrite.{and-left, and-right}
 use Rattle.image.specs.Quad.{quadAt, quadBytes, numberQuad, numberFrom}
 use Rattle.image.specs.Shown.{shownAt, shownBytes, displayShown}
 use Rattle.image.specs.Tagged.{taggedAt, taggedBytes, consumerTagged, optionalFrom}
@@ -20,17 +24,10 @@ use Rattle.image.proofs.Places.{Below, none, one, both, gets-all}
 use Rattle.image.proofs.Quads.{quad-at, quad-bytes, number-back, number-written, number-within, number-bytes}
 use Rattle.image.proofs.Consumers.{Optional, tagged-at, tagged-bytes, optional-back, optional-bytes, optional-read}
 use Rattle.image.proofs.Displays.{shown-at, shown-bytes, display-bytes}
-use Rattle.event.specs.declared.memory.Notices.{Notices}
-use Rattle.service.specs.declared.Service.{Service}
-use Rattle.wire.proofs.ReadWrite.{and-left, and-right}
-use Rattle.service_image.specs.Image.{serviceBytes, serviceWith, partsFrom, checked, serviceFrom}
 use Rattle.service_groups.specs.Notices.{noticesBytes, noticesFrom, tripleAt, tripleBytes, providerTagged, disconnectedTriple, unconstrainedTriple, providerRead, disconnectedRead, unconstrainedRead, noticesWith}
 use Rattle.service_groups.specs.Phase.{standingAt, standingBytes, standing, phaseFrom}
 use Rattle.service_groups.specs.Registration.{headBytes, registeredAt, registeredBytes, registered, registrationFrom}
-use Rattle.service_groups.specs.State.{heldBytes, powerByte, displayed, stateFrom}
-use Rattle.service_image.specs.Typed.{Typed, ProviderTyped, ConsumerTyped}
-use Rattle.service_image.specs.WellFormed.{registrationFits, stateFits, phaseFits, numberFits, ordersFit, noticesFit, providerFits, disconnectedFits, consumerFits, unconstrainedFits, tells, wellFormed}
-use Rattle.service_image.specs.declared.ReadService.{ReadService}
+use Rattle.service_groups.specs.State.{heldBytes, powerByte, stateFrom}
 use Rattle.service_groups.specs.declared.notices.ReadDisconnected.{ReadDisconnected}
 use Rattle.service_groups.specs.declared.notices.ReadNotices.{ReadNotices}
 use Rattle.service_groups.specs.declared.notices.ReadProvider.{ReadProvider}
@@ -41,6 +38,10 @@ use Rattle.service_groups.specs.declared.phase.Standing.{Standing}
 use Rattle.service_groups.specs.declared.registration.ReadRegistration.{ReadRegistration}
 use Rattle.service_groups.specs.declared.registration.Registered.{Registered}
 use Rattle.service_groups.specs.declared.state.ReadState.{ReadState}
+use Rattle.service_image.specs.Image.{serviceBytes, serviceWith, partsFrom, checked, serviceFrom}
+use Rattle.service_image.specs.Typed.{Typed, ProviderTyped, ConsumerTyped}
+use Rattle.service_image.specs.WellFormed.{registrationFits, stateFits, phaseFits, numberFits, ordersFit, noticesFit, providerFits, disconnectedFits, consumerFits, unconstrainedFits, tells, wellFormed}
+use Rattle.service_image.specs.declared.ReadService.{ReadService}
 use Rattle.service_image.proofs.Fits.{consumer-typed, consumer-within}
 use Rattle.service_image.proofs.Registrations as registrations
 use Rattle.service_image.proofs.States as states
@@ -116,7 +117,7 @@ head-bytes s t w =
 
 held-bytes : (s : Service) → Typed s → Parts s → Below (heldBytes (s .memory .state) (s .orders))
 held-bytes s t w =
-    both (shown-bytes (displayShown (displayed (s .memory .state))) (display-bytes (displayed (s .memory .state)) (states.state-within (s .registration .ports) (s .memory .state) (w .ports) (w .state) (t .consumer))))
+    both (shown-bytes (displayShown (displayOf (s .memory .state))) (display-bytes (displayOf (s .memory .state)) (states.state-within (s .registration .ports) (s .memory .state) (w .ports) (w .state) (t .consumer))))
     (one (states.power-lt (s .memory .state .«current_provider_state»)) (one (orders-lt (s .registration .chargers) (s .phase) (s .orders) (s .registration .ports) (w .chargers) (w .phase) (w .orders)) none))
 
 notices-bytes : (ports : ℕ) (n : Notices) → ports ≤ 16 → NoticeParts ports n → ProviderTyped (n .provider) → ConsumerTyped (n .connected)
@@ -153,7 +154,7 @@ notices-back n =
 
 parts-back : (s : Service) → Parts s
     → serviceWith (registrationFrom (registered (s .registration))) (numberFrom (numberQuad (s .number)))
-    (stateFrom (displayShown (displayed (s .memory .state))) (powerByte (s .memory .state .«current_provider_state»)))
+    (stateFrom (displayShown (displayOf (s .memory .state))) (powerByte (s .memory .state .«current_provider_state»)))
     (s .orders)
     (phaseFrom (standing (s .phase)))
     (noticesWith (providerRead (providerTagged (s .memory .notices .provider))) (disconnectedRead (disconnectedTriple (s .memory .notices .disconnected))) (optionalFrom (consumerTagged (s .memory .notices .connected)))

@@ -8,18 +8,19 @@ use lib.Dec.{leb, ltb}
 use borrow.Author.Tests.{leb-true, ltb-true}
 use Rattle.display.specs.Providers.{len}
 use Rattle.display.specs.declared.Display.{Display}
+use Rattle.power_policy_service.specs.declared.provider.PowerState.{PowerState}
+use Rattle.abstract_policy.specs.State.{displayOf}
+use Rattle.abstract_policy.specs.declared.state.InternalState.{InternalState}
+use Rattle.wire.proofs.ReadWrite.{and-left, and-right}
 use Rattle.image.specs.Shown.{displayShown, displayFrom}
 use Rattle.image.specs.declared.shown.ReadDisplay.{ReadDisplay}
 use Rattle.image.specs.declared.shown.Shown.{Shown}
 use Rattle.image.proofs.Displays.{ShownBytes, DisplayWithin, Displayed, display-back, display-read}
-use Rattle.power_policy_service.specs.declared.provider.PowerState.{PowerState}
-use Rattle.event.specs.declared.memory.InternalState.{InternalState}
-use Rattle.service_groups.specs.State.{powerByte, displayed, powerStateFrom, stateWith, stateFrom}
-use Rattle.service_image.specs.Typed.{ConsumerTyped}
-use Rattle.service_image.specs.WellFormed.{consumerFits, providersFit, stateFits}
+use Rattle.service_groups.specs.State.{powerByte, powerStateFrom, stateWith, stateFrom}
 use Rattle.service_groups.specs.declared.state.ReadPowerState.{ReadPowerState}
 use Rattle.service_groups.specs.declared.state.ReadState.{ReadState}
-use Rattle.wire.proofs.ReadWrite.{and-left, and-right}
+use Rattle.service_image.specs.Typed.{ConsumerTyped}
+use Rattle.service_image.specs.WellFormed.{consumerFits, providersFit, stateFits}
 use Rattle.service_image.proofs.Fits.{consumer-typed, consumer-within}
 use Rattle.service_image.proofs.Masks.{mask-lt}
 
@@ -42,13 +43,13 @@ power-written zero p e = ap power-number e
 power-written (suc zero) p e = ap power-number e
 power-written (suc (suc b)) p e = absurd (let z : _≡_ {A = ℕ} 0 1 = cc in omega arith)
 
-pub state-back : (s : InternalState) → stateFrom (displayShown (displayed s)) (powerByte (s .«current_provider_state»)) ≡ ReadState.Read s
+pub state-back : (s : InternalState) → stateFrom (displayShown (displayOf s)) (powerByte (s .«current_provider_state»)) ≡ ReadState.Read s
 state-back s =
-    ap (λ (r : ReadDisplay). stateWith r (powerStateFrom (powerByte (s .«current_provider_state»)))) (display-back (displayed s))
-    ∙ ap (stateWith (ReadDisplay.Read (displayed s))) (power-back (s .«current_provider_state»))
+    ap (λ (r : ReadDisplay). stateWith r (powerStateFrom (powerByte (s .«current_provider_state»)))) (display-back (displayOf s))
+    ∙ ap (stateWith (ReadDisplay.Read (displayOf s))) (power-back (s .«current_provider_state»))
 
 pub state-within : (ports : ℕ) (s : InternalState) → ports ≤ 16 → stateFits ports s ≡ true → ConsumerTyped (s .«current_consumer_state»)
-    → DisplayWithin (displayed s)
+    → DisplayWithin (displayOf s)
 state-within ports s h e t =
     let c = consumerFits ports (s .«current_consumer_state») in
     let a = leb (s .unconstrained .available) ports in
@@ -64,7 +65,7 @@ state-within ports s h e t =
 
 -- what was read was written so, and is within its types
 pub record Read (g : Shown) (b : ℕ) (s : InternalState) : Type 0 where
-  pub shown : g ≡ displayShown (displayed s)
+  pub shown : g ≡ displayShown (displayOf s)
   pub power : b ≡ powerByte (s .«current_provider_state»)
   pub typed : ConsumerTyped (s .«current_consumer_state»)
 

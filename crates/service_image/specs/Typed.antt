@@ -1,18 +1,14 @@
 -- Every number within its type, as each value of the program is: mV and mA of 16 bits, milliwatts and event numbers of 32.
-use Prim.Native.Nat.{ℕ, _≤_}
-use mathlib.Core.Bool.{Bool, true}
+use Prim.Native.Nat.{_≤_}
+use mathlib.Core.Bool.{true}
 use mathlib.Core.Path.{_≡_}
+use Rattle.power_policy_interface.specs.Limits.{largest}
+use Rattle.power_policy_interface.specs.Capability.{capabilityFits}
 use Rattle.display.specs.declared.OptionAvailableConsumer.{OptionAvailableConsumer}
-use Rattle.event.specs.declared.memory.Notices.{Notices}
+use Rattle.power_policy_service.specs.Config.{ConfigFits}
 use Rattle.event.specs.declared.memory.ProviderNotice.{ProviderNotice}
 use Rattle.event.specs.declared.phase.Phase.{Phase}
-use Rattle.power_policy_service.specs.declared.config.Config.{Config}
-use Rattle.power_policy_service.specs.declared.config.OptionMilliwatts.{OptionMilliwatts}
 use Rattle.service.specs.declared.Service.{Service}
-use Rattle.wire.specs.WellFormed.{capabilityFits}
-
-abbrev pub largest : ℕ
-largest = 4294967295
 
 abbrev pub ConsumerTyped : OptionAvailableConsumer → Type 0
 ConsumerTyped OptionAvailableConsumer.None = Unit {0}
@@ -30,18 +26,8 @@ PhaseTyped (Phase.Switching l old f new) = capabilityFits (new .«consumer_power
 PhaseTyped (Phase.Connecting s new) = capabilityFits (new .«consumer_power_capability» .capability) ≡ true
 PhaseTyped (Phase.Providing p c) = capabilityFits (c .capability) ≡ true
 
-abbrev pub MilliwattsTyped : OptionMilliwatts → Type 0
-MilliwattsTyped OptionMilliwatts.None = Unit {0}
-MilliwattsTyped (OptionMilliwatts.Some n) = n ≤ largest
-
-pub record ConfigTyped (c : Config) : Type 0 where
-  pub threshold : c .«limited_power_threshold_mw» ≤ largest
-  pub unlimited : capabilityFits (c .«provider_unlimited») ≡ true
-  pub limited : capabilityFits (c .«provider_limited») ≡ true
-  pub minimum : MilliwattsTyped (c .«min_consumer_threshold_mw»)
-
 pub record Typed (s : Service) : Type 0 where
-  pub config : ConfigTyped (s .registration .config)
+  pub config : ConfigFits (s .registration .config)
   pub number : s .number ≤ largest
   pub consumer : ConsumerTyped (s .memory .state .«current_consumer_state»)
   pub phase : PhaseTyped (s .phase)

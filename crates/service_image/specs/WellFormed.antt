@@ -1,18 +1,18 @@
 -- The services that calls lead to (crate invariant), and that an image is to be read as (docs/STATE.md). A test, so that it can be decided.
-use Prim.Native.Nat.{ℕ, suc, _+_, _*_, _^_}
-use mathlib.Core.Bool.{Bool, true, false, cond, not, _&&_, _||_}
-use lib.Dec.{eqb, leb, ltb}
+use Prim.Native.Nat.{ℕ, _+_, _*_, _^_}
+use mathlib.Core.Bool.{Bool, true, false, not, _&&_, _||_}
+use lib.Dec.{leb, ltb}
 use Rattle.power_policy_interface.specs.declared.psu.Error.{Error}
 use Rattle.power_policy_interface.specs.declared.psu.OptionMismatch.{OptionMismatch}
 use Rattle.power_policy_interface.specs.declared.psu.Result.{Result}
 use Rattle.display.specs.Providers.{len}
 use Rattle.display.specs.declared.OptionAvailableConsumer.{OptionAvailableConsumer}
 use Rattle.display.specs.declared.providers.Providers.{Providers}
+use Rattle.abstract_policy.specs.declared.state.InternalState.{InternalState}
+use Rattle.abstract_policy.specs.declared.state.Registration.{Registration}
 use Rattle.event.specs.declared.memory.DisconnectedNotice.{DisconnectedNotice}
-use Rattle.event.specs.declared.memory.InternalState.{InternalState}
 use Rattle.event.specs.declared.memory.Notices.{Notices}
 use Rattle.event.specs.declared.memory.ProviderNotice.{ProviderNotice}
-use Rattle.event.specs.declared.memory.Registration.{Registration}
 use Rattle.event.specs.declared.memory.UnconstrainedNotice.{UnconstrainedNotice}
 use Rattle.event.specs.declared.phase.Leaver.{Leaver}
 use Rattle.event.specs.declared.phase.Phase.{Phase}

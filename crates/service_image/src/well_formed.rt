@@ -1,11 +1,11 @@
 // Whether a service is well formed (docs/STATE.md): a test for each part.
+use abstract_policy::state::InternalState;
+use abstract_policy::state::Registration;
 use display::OptionAvailableConsumer;
 use display::providers::Providers;
 use event::memory::DisconnectedNotice;
-use event::memory::InternalState;
 use event::memory::Notices;
 use event::memory::ProviderNotice;
-use event::memory::Registration;
 use event::memory::UnconstrainedNotice;
 use event::phase::Leaver;
 use event::phase::Phase;

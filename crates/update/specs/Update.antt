@@ -1,27 +1,22 @@
 -- The update of the consumer, from one order to the next. That it follows the update as transcribed from the Rust is shown in `interaction`.
-use Prim.Native.Nat.{ℕ, zero, suc, _-_, min}
-use mathlib.Core.Bool.{Bool, true, false, cond, _&&_}
-use lib.Dec.{ltb, eqb}
-use Rattle.power_policy_interface.specs.Capability.{sameConsumer}
+use Prim.Native.Nat.{ℕ, _-_}
+use mathlib.Core.Bool.{Bool, cond}
+use lib.Dec.{ltb}
 use Rattle.power_policy_interface.specs.Psu.{canConnectConsumerOf}
 use Rattle.power_policy_interface.specs.Service.{sameUnconstrained}
 use Rattle.power_policy_interface.specs.declared.capability.DisconnectFlags.{DisconnectFlags}
-use Rattle.power_policy_interface.specs.declared.capability.DisconnectReason.{DisconnectReason}
-use Rattle.power_policy_interface.specs.declared.capability.OptionConsumerPowerCapability.{OptionConsumerPowerCapability}
-use Rattle.power_policy_interface.specs.declared.capability.OptionDisconnectReason.{OptionDisconnectReason}
-use Rattle.power_policy_interface.specs.declared.psu.PsuState.{PsuState}
 use Rattle.power_policy_interface.specs.declared.psu.Result.{Result}
-use Rattle.power_policy_interface.specs.declared.psu.State.{State}
 use Rattle.power_policy_interface.specs.declared.service.UnconstrainedState.{UnconstrainedState}
 use Rattle.display.specs.declared.AvailableConsumer.{AvailableConsumer}
 use Rattle.display.specs.declared.OptionAvailableConsumer.{OptionAvailableConsumer}
-use Rattle.power_policy_service.specs.Consumer.{bestOf}
-use Rattle.event.specs.Memory.{withConsumer, withUnconstrained, tellDisconnected, tellConnected, tellUnconstrained, psuOf, chargerUnpowered, nextPowered}
-use Rattle.event.specs.declared.memory.InternalState.{InternalState}
+use Rattle.abstract_policy.specs.State.{withConsumer, withUnconstrained, psuOf, chargerUnpowered}
+use Rattle.abstract_policy.specs.Interaction.{unconstrainedOf, reasonOf, isConnectedConsumer, sameAvailable, findBestConsumer}
+use Rattle.abstract_policy.specs.declared.state.InternalState.{InternalState}
+use Rattle.abstract_policy.specs.declared.state.Records.{Records}
+use Rattle.abstract_policy.specs.declared.state.Registration.{Registration}
+use Rattle.event.specs.Memory.{tellDisconnected, tellConnected, tellUnconstrained, nextPowered}
 use Rattle.event.specs.declared.memory.Memory.{Memory}
 use Rattle.event.specs.declared.memory.Notices.{Notices}
-use Rattle.event.specs.declared.memory.Records.{Records}
-use Rattle.event.specs.declared.memory.Registration.{Registration}
 use Rattle.event.specs.declared.phase.Leaver.{Leaver}
 use Rattle.event.specs.declared.phase.Phase.{Phase}
 use Rattle.event.specs.declared.phase.Stage.{Stage}
@@ -41,29 +36,6 @@ connectingPhase s new = Phase.Connecting s new
 
 -- the last step of an update: both unconstrained figures
 
-abbrev pub unconstrainedFlag : OptionConsumerPowerCapability → Bool
-unconstrainedFlag OptionConsumerPowerCapability.None = false
-unconstrainedFlag (OptionConsumerPowerCapability.Some c) = c .flags .«unconstrained_power»
-
-abbrev pub offersUnconstrained : State → Bool
-offersUnconstrained s = unconstrainedFlag (s .«consumer_capability»)
-
-abbrev pub counted : Bool → ℕ → ℕ
-counted true n = suc n
-counted false n = n
-
--- ports whose consumer capability has unconstrained_power, under the minimum or not
-abbrev pub availableOf : Records → ℕ → ℕ
-availableOf r zero = 0
-availableOf r (suc n) = counted (offersUnconstrained (psuOf r n)) (availableOf r n)
-
-abbrev pub consumerFlag : OptionAvailableConsumer → Bool
-consumerFlag OptionAvailableConsumer.None = false
-consumerFlag (OptionAvailableConsumer.Some c) = c .«consumer_power_capability» .flags .«unconstrained_power»
-
-abbrev pub unconstrainedOf : Registration → InternalState → Records → UnconstrainedState
-unconstrainedOf g s r = record { unconstrained = consumerFlag (s .«current_consumer_state»); available = availableOf r (g .ports) }
-
 abbrev pub updatedTo : UnconstrainedState → Memory → Memory
 updatedTo u m =
     cond (sameUnconstrained u (m .state .unconstrained)) m
@@ -81,17 +53,6 @@ connectIf (Result.Err e) m new = closed (Result.Err e) m
 abbrev pub connectPsuOf : Memory → AvailableConsumer → Records → Turn
 connectPsuOf m new r = connectIf (canConnectConsumerOf (psuOf r (new .psu))) m new
 
-abbrev pub orSwitching : OptionDisconnectReason → DisconnectReason
-orSwitching OptionDisconnectReason.None = DisconnectReason.Switching
-orSwitching (OptionDisconnectReason.Some r) = r
-
--- AutoRenegotiation if the port is the same, else the event's reason, else Switching
-abbrev pub reasonOf : ℕ → AvailableConsumer → DisconnectFlags → DisconnectFlags
-reasonOf old new f =
-    record {
-      reason = OptionDisconnectReason.Some (cond (eqb old (new .psu)) DisconnectReason.AutoRenegotiation (orSwitching (f .reason)));
-    }
-
 abbrev pub toldSwitch : Memory → ℕ → DisconnectFlags → AvailableConsumer → Memory
 toldSwitch m old f new = remember (m .state) (tellDisconnected old (reasonOf old new f) (m .notices))
 
@@ -100,15 +61,6 @@ abbrev pub switchOf : Registration → Memory → ℕ → ℕ → DisconnectFlag
 switchOf g m i old f new r =
     let j : ℕ = nextPowered r (g .chargers - i) i in
     cond (ltb j (g .chargers)) (at (Phase.Switching (Leaver.Charger j) old f new) m) (connectPsuOf (toldSwitch m old f new) new r)
-
-abbrev pub isConnectedConsumer : PsuState → Bool
-isConnectedConsumer PsuState.Idle = false
-isConnectedConsumer (PsuState.ConnectedProvider c) = false
-isConnectedConsumer (PsuState.ConnectedConsumer c) = true
-isConnectedConsumer PsuState.Detached = false
-
-abbrev pub sameAvailable : AvailableConsumer → AvailableConsumer → Bool
-sameAvailable a b = eqb (a .psu) (b .psu) && sameConsumer (b .«consumer_power_capability») (a .«consumer_power_capability»)
 
 abbrev pub cleared : Memory → Memory
 cleared m = remember (withConsumer OptionAvailableConsumer.None (m .state)) (m .notices)
@@ -151,10 +103,6 @@ chargeOf g m i new r =
 
 -- the update
 
-abbrev pub chosenOf : Registration → Memory → Records → OptionAvailableConsumer
-chosenOf g m r =
-    bestOf (g .config .«min_consumer_threshold_mw») (m .state .«current_consumer_state») (r .psus) (min 16 (g .ports))
-
 abbrev pub updateNone : OptionAvailableConsumer → Registration → Memory → DisconnectFlags → Records → Turn
 updateNone OptionAvailableConsumer.None g m f r = finishUpdateOf g m r
 updateNone (OptionAvailableConsumer.Some c) g m f r = leaveOf g m 0 (c .psu) f r
@@ -164,4 +112,4 @@ updateTo OptionAvailableConsumer.None g m f r = updateNone (m .state .«current_
 updateTo (OptionAvailableConsumer.Some new) g m f r = connectNewOf g m new f r
 
 abbrev pub updateOf : Registration → Memory → DisconnectFlags → Records → Turn
-updateOf g m f r = updateTo (chosenOf g m r) g m f r
+updateOf g m f r = updateTo (findBestConsumer g (m .state) r) g m f r

@@ -1,9 +1,10 @@
 // The update of the consumer from one order to the next (consumer.rs). Where the Rust awaits a device, a step ends at a phase.
+use abstract_policy::state::Records;
+use abstract_policy::state::Registration;
 use display::AvailableConsumer;
 use display::OptionAvailableConsumer;
 use event::memory::Memory;
-use event::memory::Records;
-use event::memory::Registration;
+use event::memory::next_powered;
 use event::phase::Leaver;
 use event::phase::Phase;
 use event::phase::Stage;
@@ -16,7 +17,8 @@ use power_policy_interface::psu;
 use power_policy_interface::service::UnconstrainedState;
 use power_policy_service::consumer::find_best_consumer_default;
 ghost use mathlib.Core.Path.{_≡_};
-ghost use Rattle.update.specs.Update.{closed, at, availableOf, offersUnconstrained, consumerFlag, updatedTo, finishUpdateOf, connectPsuOf, reasonOf, switchOf, sameAvailable, disconnectOf, connectNewOf, leftOf, leaveOf, connectingPhase, chargeOf, chargeStage, chosenOf, updateOf, isConnectedConsumer};
+ghost use Rattle.abstract_policy.specs.Interaction.{availableOf, offersUnconstrained, consumerFlag, reasonOf, sameAvailable, findBestConsumer, isConnectedConsumer};
+ghost use Rattle.update.specs.Update.{closed, at, updatedTo, finishUpdateOf, connectPsuOf, switchOf, disconnectOf, connectNewOf, leftOf, leaveOf, connectingPhase, chargeOf, chargeStage, updateOf};
 
 pub fn close(result: psu::Result, memory: Memory) -> Turn
     ensures { λ r. ⌜ r ≡ closed result memory ⌝ }
@@ -146,7 +148,7 @@ pub fn switch_from(
     ensures { λ r. ⌜ r ≡ switchOf registration memory from old flags new records ⌝ }
 {
     let count = registration.chargers;
-    let next = records.next_powered(count, from);
+    let next = next_powered(records, count, from);
     if next < count {
         return Turn {
             phase: Phase::Switching(Leaver::Charger(next), old, flags, new),
@@ -257,7 +259,7 @@ pub fn leave_from(
     ensures { λ r. ⌜ r ≡ leaveOf registration memory from port flags records ⌝ }
 {
     let count = registration.chargers;
-    let next = records.next_powered(count, from);
+    let next = next_powered(records, count, from);
     if next < count {
         return Turn {
             phase: Phase::Leaving(next, port, flags),
@@ -310,7 +312,7 @@ pub fn charge_from(
 
 // The best consumer among the ports.
 fn choose(registration: Registration, memory: Memory, records: Records) -> OptionAvailableConsumer
-    ensures { λ r. ⌜ r ≡ chosenOf registration memory records ⌝ }
+    ensures { λ r. ⌜ r ≡ findBestConsumer registration (memory .state) records ⌝ }
 {
     let state = memory.state;
     let consumer = state.current_consumer_state;

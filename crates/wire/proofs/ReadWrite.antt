@@ -8,22 +8,22 @@ use native.Mathlib.Omega.{arith}
 use lib.Dec.{eqb, leb, ltb}
 use lib.ListN.{length}
 use borrow.Author.Tests.{le-leb, leb-true}
-use Rattle.power_policy_interface.proofs.OneByte.{consumer-read-write, provider-read-write, reason-read-write}
-use Rattle.power_policy_interface.specs.Capability.{bit, consumerFlagsByte, providerFlagsByte, disconnectByte}
+use Rattle.power_policy_interface.specs.Capability.{bit, consumerFlagsByte, providerFlagsByte, disconnectByte, capabilityFits}
 use Rattle.power_policy_interface.specs.declared.capability.PowerCapability.{PowerCapability}
 use Rattle.power_policy_interface.specs.declared.capability.ConsumerFlags.{ConsumerFlags}
 use Rattle.power_policy_interface.specs.declared.service.UnconstrainedState.{UnconstrainedState}
 use Rattle.power_policy_interface.specs.declared.service.event.Event.{Event}
+use Rattle.power_policy_interface.proofs.OneByte.{consumer-read-write, provider-read-write, reason-read-write}
 use Rattle.display.specs.Notices.{empty, pushed, listed, lengthOf, padded}
-use Rattle.display.proofs.Four.{at-most-four, rebuilt, padded-rebuilt}
 use Rattle.display.specs.declared.notices.Notices.{Notices}
 use Rattle.display.specs.declared.packet.EventPacket.{EventPacket}
 use Rattle.display.specs.declared.packet.Packet.{Packet}
+use Rattle.display.proofs.Four.{at-most-four, rebuilt, padded-rebuilt}
 use Rattle.wire.specs.Number.{leb128}
 use Rattle.wire.specs.Parser.{parsed, field, number}
 use Rattle.wire.specs.Packet.{capability, consumer, unconstrained, consumerDisconnected, consumerConnected, providerDisconnected, providerConnected, unconstrainedChanged, noticeOf, notice, notices, eventNotices, eventAfter, event, packetOf, packet}
 use Rattle.wire.specs.Bytes.{capabilityBytes, contractBytes, unconstrainedBytes, noticeBytes, allBytes, eventBytes}
-use Rattle.wire.specs.WellFormed.{capabilityFits, contractFits, noticeFits, noticesFit, eventFits}
+use Rattle.wire.specs.WellFormed.{contractFits, noticeFits, noticesFit, eventFits}
 use Rattle.wire.proofs.OneNumber.{number-back}
 
 -- both halves of a test

@@ -10,8 +10,7 @@ use lib.Dec.{eqb, leb}
 use lib.ListN.{length, getD, drop}
 use lib.Seq.{getD-append-add}
 use borrow.Author.Tests.{le-leb, leb-true}
-use Rattle.power_policy_interface.proofs.OneByte.{consumer-write-read, provider-write-read, reason-write-read}
-use Rattle.power_policy_interface.specs.Capability.{bit, consumerFlagsByte, providerFlagsByte, consumerFlagsFrom, providerFlagsFrom, disconnectFrom, disconnectByte}
+use Rattle.power_policy_interface.specs.Capability.{bit, consumerFlagsByte, providerFlagsByte, consumerFlagsFrom, providerFlagsFrom, disconnectFrom, disconnectByte, capabilityFits}
 use Rattle.power_policy_interface.specs.declared.capability.PowerCapability.{PowerCapability}
 use Rattle.power_policy_interface.specs.declared.capability.ConsumerFlags.{ConsumerFlags}
 use Rattle.power_policy_interface.specs.declared.capability.OptionConsumerFlags.{OptionConsumerFlags}
@@ -21,12 +20,13 @@ use Rattle.power_policy_interface.specs.declared.capability.DisconnectFlags.{Di
 use Rattle.power_policy_interface.specs.declared.capability.OptionDisconnectFlags.{OptionDisconnectFlags}
 use Rattle.power_policy_interface.specs.declared.service.UnconstrainedState.{UnconstrainedState}
 use Rattle.power_policy_interface.specs.declared.service.event.Event.{Event}
+use Rattle.power_policy_interface.proofs.OneByte.{consumer-write-read, provider-write-read, reason-write-read}
 use Rattle.display.specs.declared.AvailableConsumer.{AvailableConsumer}
 use Rattle.wire.specs.Number.{leb128, readNumber}
 use Rattle.wire.specs.Parser.{Parsed, refused, parsed, Parser, then, byte, holds, field, number, numberRest}
 use Rattle.wire.specs.Packet.{consumerFlagsGiven, providerFlagsGiven, reasonGiven, capability, consumer, unconstrained, consumerDisconnected, consumerConnected, providerDisconnected, providerConnected, unconstrainedChanged, noticeOf, notice}
 use Rattle.wire.specs.Bytes.{capabilityBytes, contractBytes, unconstrainedBytes, noticeBytes}
-use Rattle.wire.specs.WellFormed.{capabilityFits, contractFits, noticeFits}
+use Rattle.wire.specs.WellFormed.{contractFits, noticeFits}
 use Rattle.wire.specs.declared.number.ReadNumber.{ReadNumber}
 use Rattle.wire.proofs.Reading.{number-bounds}
 use Rattle.wire.proofs.OneNumber.{AllBytes, write-read}

@@ -4,6 +4,7 @@ use Prim.Native.Nat.{ℕ}
 use mathlib.Core.Bool.{Bool, true, _&&_}
 use mathlib.Core.List.{List, [], _∷_}
 use lib.Dec.{leb, ltb}
+use Rattle.power_policy_interface.specs.Capability.{capabilityFits}
 use Rattle.power_policy_interface.specs.declared.capability.PowerCapability.{PowerCapability}
 use Rattle.power_policy_interface.specs.declared.service.event.Event.{Event}
 use Rattle.display.specs.Notices.{listed, padded}
@@ -12,9 +13,6 @@ use Rattle.display.specs.declared.OptionAvailableConsumer.{OptionAvailableConsu
 use Rattle.display.specs.declared.packet.EventPacket.{EventPacket}
 use Rattle.display.specs.declared.packet.Packet.{Packet}
 use Rattle.display.specs.declared.packet.Picture.{Picture}
-
-abbrev pub capabilityFits : PowerCapability → Bool
-capabilityFits c = leb (c .«voltage_mv») 65535 && leb (c .«current_ma») 65535
 
 abbrev pub contractFits : ℕ → PowerCapability → Bool
 contractFits port c = leb port 15 && capabilityFits c

@@ -2,7 +2,7 @@
 use mathlib.Core.Path.{_∙_}
 use denote.Ref.{now}
 use Rattle.follower.specs.Follower.{consumerOf}
-use Rattle.calls.specs.Numbers.{consumerNumber}
+use Rattle.abstract_calls.specs.Numbers.{consumerNumber}
 use Rattle.follower_calls.proofs.Read.{by-refused, by-lost, by-picture}
 use borrow.Author.Needs.{needs}
 use Rattle.follower_calls.proofs.consumer.Statement.{statement}

@@ -3,9 +3,9 @@ use mathlib.Core.Path.{_≡_, ap, _∙_}
 use mathlib.Core.Bool.{Bool, cond}
 use denote.Ref.{now}
 use Rattle.follower.specs.Follower.{stateOf}
-use Rattle.follower.specs.declared.State.{State}
-use Rattle.calls.specs.Lent.{shownAs}
-use Rattle.calls.specs.Numbers.{shownNumber}
+use Rattle.display.specs.declared.State.{State}
+use Rattle.calls.specs.Calls.{shownAs}
+use Rattle.abstract_calls.specs.Numbers.{shownNumber}
 use Rattle.follower.specs.Held.{noneHeld}
 use Rattle.follower_in_place.proofs.Slot.{none-same}
 use Rattle.follower_calls.proofs.Read.{by-refused, by-lost, by-picture}

@@ -1,7 +1,7 @@
 -- The image is one, or it is turned back.
 use mathlib.Core.Path.{sym, ap, _∙_}
 use mathlib.Core.Bool.{Bool, cond}
-use Rattle.calls.specs.Numbers.{refusedNumber, doneNumber}
+use Rattle.abstract_calls.specs.Numbers.{refusedNumber, doneNumber}
 use borrow.Author.Needs.{needs}
 use Rattle.follower_calls.proofs.store_taken.Statement.{statement}
 use Rattle.follower_calls.proofs.store_taken.Tie as tie

@@ -1,8 +1,8 @@
 -- What is shown decides.
 use mathlib.Core.Path.{ap, _∙_}
 use denote.Ref.{now}
-use Rattle.calls.specs.Lent.{trackedIn}
-use Rattle.calls.specs.Numbers.{trackedNumber}
+use Rattle.calls.specs.Calls.{trackedIn}
+use Rattle.abstract_calls.specs.Numbers.{trackedNumber}
 use Rattle.follower_calls.proofs.Read.{by-refused, by-lost, by-picture}
 use borrow.Author.Needs.{needs}
 use Rattle.follower_calls.proofs.tracked.Statement.{statement}

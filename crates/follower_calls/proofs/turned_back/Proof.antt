@@ -1,7 +1,7 @@
 -- What is shown does not matter, only that the image is one.
 use mathlib.Core.Path.{refl, _∙_}
 use denote.Ref.{now}
-use Rattle.calls.specs.Numbers.{refusedNumber}
+use Rattle.abstract_calls.specs.Numbers.{refusedNumber}
 use Rattle.follower_calls.proofs.Read.{by-refused, by-lost, by-picture}
 use borrow.Author.Needs.{needs}
 use Rattle.follower_calls.proofs.turned_back.Statement.{statement}

@@ -3,7 +3,7 @@ use mathlib.Core.Path.{sym}
 use lib.ListN.{List·getD-eq-default}
 use Rattle.power_policy_interface.proofs.Past.{past}
 use Rattle.power_policy_interface.specs.declared.psu.event.EventData.{EventData}
-use Rattle.service.specs.Service.{events}
+use Rattle.abstract_policy.specs.Given.{events}
 use borrow.Author.Needs.{needs}
 use Rattle.service.proofs.event_from.Statement.{statement}
 use Rattle.service.proofs.event_from.Tie as tie

@@ -1,14 +1,13 @@
 -- After i ports the count is that of the first i.
 use mathlib.Core.Bool.{true, false}
-use Rattle.event.specs.Memory.{psuOf}
-use Rattle.update.specs.Update.{availableOf, counted, offersUnconstrained}
+use Rattle.abstract_policy.specs.State.{psuOf}
+use Rattle.abstract_policy.specs.Interaction.{availableOf, counted, offersUnconstrained}
 use Prim.Native.Nat.{ℕ, _≤_, _-_, _+_}
 use borrow.Author.Needs.{needs}
 use native.Mathlib.Omega.{arith}
 use native.Mathlib.Numerals.{add-one}
 use mathlib.Core.Logic.{⊎-elim}
 use mathlib.Core.Path.{_≡_, refl, sym, _∙_, ap}
-use Rattle.update.specs.Update.{availableOf, counted}
 use Rattle.update.proofs.available.Statement.{statement}
 use Rattle.update.proofs.available.Tie as tie
 

@@ -4,7 +4,7 @@ use mathlib.Core.Bool.{_&&_}
 use native.Mathlib.Omega.{arith}
 use lib.Dec.{leb}
 use borrow.Author.Tests.{leb-true}
-use Rattle.follower.specs.WellFormed.{largest}
+use Rattle.power_policy_interface.specs.Limits.{largest}
 use Rattle.follower_image.proofs.Notices.{and-left}
 use borrow.Author.Needs.{needs}
 use Rattle.follower_image.proofs.slot.read_packet.Statement.{statement}

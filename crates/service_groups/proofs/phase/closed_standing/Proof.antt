@@ -12,15 +12,15 @@ empty-requires c κs = search needs
 byte-requires : tie.Need-byte-requires
 byte-requires c κs = search needs
 
-expected-byte-requires : tie.Need-expected-byte-requires
-expected-byte-requires c κs = search needs
+expected-requires : tie.Need-expected-requires
+expected-requires c κs = search needs
 
-actual-byte-requires : tie.Need-actual-byte-requires
-actual-byte-requires c κs = search needs
+actual-requires : tie.Need-actual-requires
+actual-requires c κs = search needs
 
 returns : tie.Need-returns
 returns c =
-    rw (c .actual-byte .ensures, c .before .expected-byte .ensures, c .before .before .byte .ensures, c .before .before .before .empty .ensures, c .before .before .before .before .mismatch-in .ensures)
+    rw (c .actual .ensures, c .before .expected .ensures, c .before .before .byte .ensures, c .before .before .before .empty .ensures, c .before .before .before .before .mismatch-in .ensures)
 
 pub closed-standing-spec : {M : Type 1} → statement M
 closed-standing-spec =
@@ -29,6 +29,6 @@ closed-standing-spec =
     mismatch-in-requires
     empty-requires
     byte-requires
-    expected-byte-requires
-    actual-byte-requires
+    expected-requires
+    actual-requires
     returns)

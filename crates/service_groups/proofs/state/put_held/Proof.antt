@@ -3,8 +3,8 @@ use borrow.Author.Needs.{needs}
 use Rattle.service_groups.proofs.state.put_held.Statement.{statement}
 use Rattle.service_groups.proofs.state.put_held.Tie as tie
 
-displayed-requires : tie.Need-displayed-requires
-displayed-requires c κs = search needs
+display-requires : tie.Need-display-requires
+display-requires c κs = search needs
 
 of-display-requires : tie.Need-of-display-requires
 of-display-requires c κs = search needs
@@ -32,13 +32,13 @@ same-length c = search needs
 
 returns : tie.Need-returns
 returns c =
-    rw (c .before .before .put2 .ensures, c .before .before .before .before .before .before .before .put .ensures, c .before .before .before .before .before .before .before .before .before .before .power-byte .ensures, c .before .before .before .before .before .before .before .before .before .before .before .bytes .ensures, c .before .before .before .before .before .before .before .before .before .before .before .before .of-display .ensures, c .before .before .before .before .before .before .before .before .before .before .before .before .before .displayed .ensures)
+    rw (c .before .before .put2 .ensures, c .before .before .before .before .before .before .before .put .ensures, c .before .before .before .before .before .before .before .before .before .before .power-byte .ensures, c .before .before .before .before .before .before .before .before .before .before .before .bytes .ensures, c .before .before .before .before .before .before .before .before .before .before .before .before .of-display .ensures, c .before .before .before .before .before .before .before .before .before .before .before .before .before .display .ensures)
 
 pub put-held-spec : {M : Type 1} → statement M
 put-held-spec =
     tie.close
     (tie.spec
-    displayed-requires
+    display-requires
     of-display-requires
     bytes-requires
     power-byte-requires

@@ -1,6 +1,6 @@
 -- A number is asked of an open event.
 use mathlib.Core.Path.{sym, _∙_, ap}
-use Rattle.service.specs.Refusals.{waiting}
+use Rattle.abstract_policy.specs.Refusals.{waiting}
 use borrow.Author.Needs.{needs}
 use Rattle.service_image.proofs.well_formed.number_fits.Statement.{statement}
 use Rattle.service_image.proofs.well_formed.number_fits.Tie as tie

@@ -1,0 +1,17 @@
+use borrow.Author.Needs.{needs}
+use Rattle.display.proofs.providers.Providers.new.Reads as new-reads
+use Rattle.abstract_policy.proofs.state.InternalState.default.Statement.{statement}
+use Rattle.abstract_policy.proofs.state.InternalState.default.Tie as tie
+use Rattle.abstract_policy.proofs.state.InternalState.default.Reads as reads
+use Rattle.abstract_policy.proofs.state.InternalState.default.Lts as lts
+
+-- src/memory.rt:88:34
+new-requires : tie.Need-new-requires
+new-requires c κs = search needs
+
+-- src/memory.rt:78:5
+returns : tie.Need-returns
+returns c = rw (c .new .ensures)
+
+pub default-spec : {M : Type 1} → statement M
+default-spec = tie.close (tie.spec new-requires returns)

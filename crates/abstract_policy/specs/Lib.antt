@@ -1,0 +1,12 @@
+pub mod State
+pub mod Action
+pub mod Interaction
+pub mod Given
+pub mod Refusals
+pub mod Policy
+pub mod Returns
+pub mod Orders
+pub mod Ends
+pub mod Fed
+pub mod Chosen
+pub mod Edges
