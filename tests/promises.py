@@ -1,10 +1,12 @@
 #!/usr/bin/env python3
-"""usage: promises.py
+"""usage: promises.py [--write]
 
 Holds docs/PROMISES.md against the sources. Of a crate with a table of functions: each row's function is there and as public as the row says, each function
-has its row, the edits that the row names are those that break the function, and what is counted above the table is what the table has. Every name in the columns
-of definitions, functions and laws is declared somewhere, and every file named is there. Every table has its head.
-Writes a line for what is wrong, and last 'N passed, M failed'; a row, a name or a count is one test.
+has its row, the wrong answers that the row names are those of the edits that break the function, in their order and words, and what is counted above the table is
+what the table has. Every name in the columns of definitions, functions and laws is declared somewhere, and every file named is there. Every table has its head.
+Of the edits: each line '# breaks: FUNCTION' names a function of the crate, the line after it says in words what the wrong answer is, and what is replaced for it follows.
+Writes a line for what is wrong, and last 'N passed, M failed'; a row, a name, a count or an edit's function is one test.
+With --write the column of wrong answers is first written from the edits, if each says its own.
 """
 import os
 import re
@@ -50,14 +52,23 @@ def functions(crate):
 
 
 def breaks(crate):
-    """The functions that each numbered edit of a crate breaks."""
+    """The functions that the edits of a crate break: path of the edit, line, function, and the two lines after it. By the number of the edit."""
+    paths = [path for folder in (os.path.join("crates", crate, "must-fail"), os.path.join("tests", "edits", crate)) for path in files(folder, ".edit")]
+    for path in sorted(paths, key=os.path.basename):
+        lines = text(path).split("\n") + ["", ""]
+        for k, line in enumerate(lines):
+            if line.startswith("# breaks: "):
+                yield path, k + 1, line[len("# breaks: ") :], lines[k + 1], lines[k + 2]
+
+
+def answers(crate):
+    """The column of wrong answers, by function: each in the words of its edit, with the edit's number."""
     found = {}
-    for folder in (os.path.join("crates", crate, "must-fail"), os.path.join("tests", "edits", crate)):
-        for path in files(folder, ".edit"):
-            m = re.search(r"wrong_(\d)\.edit$", path)
-            if m:
-                found[m.group(1)] = set(re.findall(r"^# breaks: (\S+)", text(path), re.M))
-    return found
+    for path, _, name, said, _ in breaks(crate):
+        m = re.search(r"wrong_(\d)\.edit$", path)
+        if m:
+            found.setdefault(name, []).append("%s (%s)" % (said[2:], m.group(1)))
+    return {name: "; ".join(said) for name, said in found.items()}
 
 
 def declared():
@@ -99,8 +110,48 @@ def tables(lines):
         i += 1
 
 
+def function(alone, cell, there):
+    """The function that a row is about, and how public the row says it is."""
+    m = re.fullmatch(r"`([\w:]+)`(?: \((private|in the crate)\))?", cell)
+    return (m.group(1) if m.group(1) in there else alone + "::" + m.group(1), m.group(2) or "") if m else (None, "")
+
+
+def of_functions(section, head):
+    return bool(head) and head[0] == "function" and os.path.isdir(os.path.join(ROOT, "crates", section))
+
+
+def write():
+    """Writes the column of wrong answers."""
+    lines = text(DOC).split("\n")
+    for section, alone, head, body in tables(lines):
+        if of_functions(section, head):
+            there, said = functions(section), answers(section)
+            for number, row in body:
+                name, _ = function(alone, row[0], there)
+                if name in there:
+                    parts = lines[number - 1].split("|")
+                    lines[number - 1] = "|".join(parts[:3] + [" %s " % said.get(name, "")] + parts[4:])
+    with open(DOC, "w", encoding="utf-8") as f:
+        f.write("\n".join(lines))
+
+
+def edits():
+    """What is wrong with the lines that name a broken function."""
+    for crate in sorted(os.listdir(os.path.join(ROOT, "crates"))):
+        there = functions(crate)
+        for path, number, name, said, then in breaks(crate):
+            at = "%s:%d: " % (os.path.relpath(path, ROOT), number)
+            if name not in there:
+                yield at + "there is no function %s in %s" % (name, crate)
+            elif not re.match(r"# (?!breaks: |theorem: )[^|]+$", said):
+                yield at + "the wrong answer of %s is not said" % name
+            else:
+                yield "" if then.startswith(("old: ", "# breaks: ")) else at + "nothing is replaced for %s" % name
+
+
 def wrong():
     """What each test finds: a line, or nothing."""
+    yield from edits()
     lines = text(DOC).split("\n")
     names = declared()
     antt = {os.path.basename(path) for path in files("crates", ".antt")}
@@ -119,31 +170,31 @@ def wrong():
                         yield "" if name in names | LIBRARY else "line %d: %s is declared nowhere" % (number, name)
                     for name in re.findall(r"\b\w+\.antt\b", cell):
                         yield "" if name in antt else "line %d: there is no %s" % (number, name)
-        if head[0] == "function" and os.path.isdir(os.path.join(ROOT, "crates", section)):
-            there, broken = functions(section), breaks(section)
+        if of_functions(section, head):
+            there, said = functions(section), answers(section)
             for number, row in body:
-                m = re.fullmatch(r"`([\w:]+)`(?: \((private|in the crate)\))?", row[0])
-                name = m and (m.group(1) if m.group(1) in there else alone + "::" + m.group(1))
+                name, public = function(alone, row[0], there)
                 if name not in there:
                     yield "line %d: there is no function %s in %s" % (number, row[0], section)
                     continue
                 rows.setdefault(section, []).append((name, row))
-                public = m.group(2) or ""
                 yield "" if there[name] == public else "line %d: %s is %s" % (number, name, there[name] or "public")
-                said = set(re.findall(r"\((\d)\)", row[2]))
-                have = {edit for edit, of in broken.items() if name in of}
-                yield "" if said == have else "line %d: %s is broken by edits %s" % (number, name, sorted(have))
+                yield "" if row[2] == said.get(name, "") else "line %d: the wrong answers of %s are, by the edits: %s" % (number, name, said.get(name, "none"))
     for section, found in rows.items():
         for name in sorted(set(functions(section)) - {name for name, _ in found}):
             yield "%s: %s has no row" % (section, name)
         body = text(DOC).split("\n## %s\n" % section)[1].split("\n## ")[0]
-        answers = sum(len(re.findall(r"\(\d\)", row[2])) for _, row in found)
-        for word, count in (("functions", len(found)), ("wrong answers", answers)):
+        wrongs = sum(len(re.findall(r"\(\d\)", row[2])) for _, row in found)
+        for word, count in (("functions", len(found)), ("wrong answers", wrongs)):
             for said in re.findall(r"\b(\d+) %s" % word, body):
                 yield "" if int(said) == count else "%s: %s %s are said, %d are in the table" % (section, said, word, count)
 
 
 def main():
+    if sys.argv[1:] not in ([], ["--write"]):
+        sys.exit("usage: promises.py [--write]")
+    if sys.argv[1:] and not any(edits()):
+        write()
     found = list(wrong())
     for line in found:
         if line:
