@@ -4,7 +4,8 @@
 Holds docs/PROMISES.md against the sources. Of a crate with a table of functions: each row's function is there and as public as the row says, each function
 has its row, the wrong answers that the row names are those of the edits that break the function, in their order and words, and what is counted above the table is
 what the table has. Every name in the columns of definitions, functions and laws is declared somewhere, and every file named is there. Every table has its head.
-Of the edits: each line '# breaks: FUNCTION' names a function of the crate, the line after it says in words what the wrong answer is, and what is replaced for it follows.
+Of the edits: each line '# breaks: FUNCTION' names a function of the crate, the line after it says in words what the wrong answer is, and what is replaced for it follows; and what an edit replaces stands
+once in its file.
 Writes a line for what is wrong, and last 'N passed, M failed'; a row, a name, a count or an edit's function is one test.
 With --write the column of wrong answers is first written from the edits, if each says its own.
 """
@@ -149,9 +150,33 @@ def edits():
                 yield "" if then.startswith(("old: ", "# breaks: ")) else at + "nothing is replaced for %s" % name
 
 
+def replaced():
+    """Of each edit: that every text which it replaces stands once in its file, after the replacements before it."""
+    for folder in sorted(os.listdir(os.path.join(ROOT, "crates"))):
+        crate = os.path.join(ROOT, "crates", folder)
+        for path in [path for place in (os.path.join("crates", folder, "must-fail"), os.path.join("tests", "edits", folder)) for path in files(place, ".edit")]:
+            now, name, old, found = {}, "", "", ""
+            for line in text(path).split("\n"):
+                if line.startswith("file: "):
+                    name = line[6:]
+                    if not os.path.exists(os.path.join(crate, name)):
+                        found = "%s: there is no %s in %s" % (os.path.relpath(path, ROOT), name, folder)
+                        break
+                    now.setdefault(name, text(os.path.join(crate, name)))
+                elif line.startswith("old: "):
+                    old = line[5:]
+                elif line.startswith("new:"):
+                    if now[name].count(old) != 1:
+                        found = "%s: %d times in %s: %s" % (os.path.relpath(path, ROOT), now[name].count(old), name, old[:80])
+                        break
+                    now[name] = now[name].replace(old, line[4:].removeprefix(" "))
+            yield found
+
+
 def wrong():
     """What each test finds: a line, or nothing."""
     yield from edits()
+    yield from replaced()
     lines = text(DOC).split("\n")
     names = declared()
     antt = {os.path.basename(path) for path in files("crates", ".antt")}

@@ -1,2 +1,3 @@
 pub mod Follower
 pub mod Takes
+pub mod Edges

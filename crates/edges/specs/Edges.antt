@@ -31,6 +31,7 @@ use Rattle.wire.specs.Packet.{capability, consumer, unconstrained, consumerConn
 use Rattle.wire.specs.Parser.{field, number}
 use Rattle.wire.specs.Read.{readPacket}
 use Rattle.wire.specs.declared.number.ReadNumber.{ReadNumber}
+use Rattle.abstract_desk.specs.Edges.{picture0, event1, event2, event3}
 use Rattle.follower.specs.Follower as follower
 use Rattle.follower.specs.Held.{noneHeld, greatest, above}
 use Rattle.follower.specs.declared.Follower.{Follower}
@@ -43,20 +44,6 @@ use Rattle.report.specs.declared.line.Line.{Line}
 
 abbrev mW : ℕ → ℕ → ℕ
 mW v a = maxPowerMw (record { «voltage_mv» = v; «current_ma» = a })
-
--- the packets of document 01's example
-
-abbrev picture0 : List ℕ
-picture0 = 0x02 ∷ 0x00 ∷ 0x00 ∷ 0x00 ∷ 0x00 ∷ 0x00 ∷ []
-
-abbrev event2 : List ℕ
-event2 = 0x01 ∷ 0x02 ∷ 0x00 ∷ 0x00 ∷ 0x00 ∷ []
-
-abbrev event1 : List ℕ
-event1 = 0x01 ∷ 0x01 ∷ 0x00 ∷ 0x02 ∷ 0x01 ∷ 0x02 ∷ 0x01 ∷ 0xA0 ∷ 0x9C ∷ 0x01 ∷ 0xB8 ∷ 0x17 ∷ 0x02 ∷ []
-
-abbrev event3 : List ℕ
-event3 = 0x01 ∷ 0x03 ∷ 0x07 ∷ 0x01 ∷ 0x00 ∷ []
 
 abbrev line : OptionNumber → shown.State → OptionNumber → OptionNumber → Line
 line n s p m = record { shown = n; state = s; port = p; mw = m }
