@@ -1,2 +1,4 @@
 pub mod Results
 pub mod OneToOne
+pub mod Packets
+pub mod Lists

@@ -3,5 +3,7 @@ pub mod OneToOne
 pub mod Called
 pub mod Lent
 pub mod Functions
+pub mod ServiceCall
+pub mod DeskCall
 pub mod Calls
 pub mod Definition

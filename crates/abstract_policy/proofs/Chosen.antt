@@ -160,18 +160,22 @@ open-since p kind device detail r e u =
 pub run-chooses : (g : Registration) → g .ports ≤ 16 → Choices g
 run-chooses g few = record {
   chosen = λ l kind device detail r u.
-      let c = policies (started g) l .state .«current_consumer_state» in
-      subst (λ (n : ℕ). Chosen (g .config .«min_consumer_threshold_mw») c (r .psus) n (bestOf (g .config .«min_consumer_threshold_mw») c (r .psus) (min 16 (g .ports)))) ports
-      (chosen (g .config .«min_consumer_threshold_mw») c (r .psus) (min 16 (g .ports)));
+      let p = policies (started g) l in
+      let c = p .state .«current_consumer_state» in
+      let m = p .registration .config .«min_consumer_threshold_mw» in
+      subst (λ (n : ℕ). Chosen m c (r .psus) n (bestOf m c (r .psus) (min 16 (p .registration .ports)))) (ports l)
+      (chosen m c (r .psus) (min 16 (p .registration .ports)));
   held = λ l kind device detail r m u n a.
       let p = policies (started g) l in
       let same = policies-append (started g) l (openEvent kind device detail r ∷ m) in
       let opened = open-since p kind device detail r (u .accepted) (u .updating) in
       let s = calls-since (p .number) (findBestConsumer (p .registration) (p .state) r) m (opens p kind device detail r) opened in
       ap (λ (x : Policy). x .state .«current_consumer_state») same
-      ∙ (s .closed (sym (ap (λ (x : Policy). x .number) same) ∙ n) (sym (ap (λ (x : Policy). x .answer) same) ∙ a)
-      ∙ ap (λ (x : Registration). findBestConsumer x (p .state) r) (policies-registration (started g) l));
+      ∙ s .closed (sym (ap (λ (x : Policy). x .number) same) ∙ n) (sym (ap (λ (x : Policy). x .answer) same) ∙ a);
 }
   where
-    ports : min 16 (g .ports) ≡ g .ports
-    ports = omega (arith, few)
+    ports : (l : List Call) → min 16 (policies (started g) l .registration .ports) ≡ policies (started g) l .registration .ports
+    ports l =
+        let e : policies (started g) l .registration .ports ≤ 16 =
+        subst (λ (x : Registration). x .ports ≤ 16) (sym (policies-registration (started g) l)) few in
+        omega (arith, e)

@@ -1,4 +1,4 @@
-pub mod Lowest
+pub mod First
 pub mod Bound
 pub mod Logic
 pub mod Carries

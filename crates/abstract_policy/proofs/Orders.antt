@@ -11,8 +11,8 @@ use Rattle.abstract_policy.specs.Given.{eventOf, resultOf}
 use Rattle.abstract_policy.specs.Action.{Interaction, done, ask}
 use Rattle.abstract_policy.specs.Interaction.{event}
 use Rattle.abstract_policy.specs.Refusals.{noAnswer}
-use Rattle.abstract_policy.specs.Policy.{Call, openEvent, giveAnswer, writePacket, writePicture, Stand, between, at, Policy, proceeds, openRefused, answers, policyAfter, policies}
-use Rattle.abstract_policy.specs.Orders.{withOrder, answerOrders, ordersAfter, ordersOf, Counted}
+use Rattle.abstract_policy.specs.Policy.{Call, openEvent, giveAnswer, writePacket, writePicture, Stand, between, at, Policy, proceeds, openRefused, answers, policyAfter, policies, withOrder, answerOrders}
+use Rattle.abstract_policy.specs.Orders.{ordersAfter, ordersOf, Counted}
 use Rattle.abstract_policy.specs.declared.state.Records.{Records}
 use Rattle.abstract_policy.specs.declared.order.Order.{Order}
 

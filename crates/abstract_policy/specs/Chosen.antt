@@ -26,10 +26,11 @@ pub record Choices (g : Registration) : Type 0 where
   pub chosen :
       (l : List Call) (kind device detail : ℕ) (r : Records) → Updates g l kind device detail →
       let p : Policy = policies (started g) l in
-      Chosen (g .config .«min_consumer_threshold_mw») (p .state .«current_consumer_state») (r .psus) (g .ports) (findBestConsumer g (p .state) r)
+      Chosen (p .registration .config .«min_consumer_threshold_mw») (p .state .«current_consumer_state») (r .psus) (p .registration .ports)
+      (findBestConsumer (p .registration) (p .state) r)
   -- whatever calls follow, once this event has closed without error and until the next one closes, this is the consumer
   pub held :
       (l : List Call) (kind device detail : ℕ) (r : Records) (m : List Call) → Updates g l kind device detail →
       let p : Policy = policies (started g) l in
       let q : Policy = policies (started g) (l ++ (openEvent kind device detail r ∷ m)) in
-      q .number ≡ suc (p .number) → q .answer ≡ Result.Ok → q .state .«current_consumer_state» ≡ findBestConsumer g (p .state) r
+      q .number ≡ suc (p .number) → q .answer ≡ Result.Ok → q .state .«current_consumer_state» ≡ findBestConsumer (p .registration) (p .state) r

@@ -1,7 +1,7 @@
 -- A run as the event's definition has it, without the machine: fed with the start and the calls that no numbered condition turns back.
 use Prim.Native.Nat.{ℕ, suc}
 use mathlib.Core.Bool.{Bool, true, false, cond}
-use mathlib.Core.List.{List, [], _∷_}
+use mathlib.Core.List.{List, [], _∷_, _++_}
 use lib.Dec.{eqb}
 use Rattle.power_policy_interface.specs.declared.psu.Result.{Result}
 use Rattle.power_policy_interface.specs.declared.service.event.Event.{Event}
@@ -16,12 +16,6 @@ use Rattle.abstract_policy.specs.declared.state.Records.{Records}
 use Rattle.abstract_policy.specs.declared.state.Registration.{Registration}
 use Rattle.abstract_policy.specs.declared.order.OptionOrder.{OptionOrder}
 use Rattle.abstract_policy.specs.declared.order.Order.{Order}
-
--- a call, with all its arguments
-pub data Call : Type 0 where
-  openEvent : ℕ → ℕ → ℕ → Records → Call
-  giveAnswer : ℕ → Records → Call
-  writePacket writePicture : Call
 
 -- no event is open, or one is: so many orders given, the open one the last of them, and what its answer leads to
 pub data Stand : Type 0 where
@@ -77,11 +71,52 @@ abbrev pub answers : Stand → Policy → ℕ → Records → Policy
 answers between p a r = p
 answers (at n o k) p a r = cond (noAnswer o a) p (proceeds p n (k (resultOf a) r))
 
+-- one order more if the event is at one
+abbrev pub withOrder : List Order → Interaction → List Order
+withOrder l (done a h) = l
+withOrder l (ask o k) = l ++ (o ∷ [])
+
+abbrev pub answerOrders : Stand → List Order → ℕ → Records → List Order
+answerOrders between l a r = l
+answerOrders (at n o k) l a r = cond (noAnswer o a) l (withOrder l (k (resultOf a) r))
+
+-- Each call as one record: where it leads, and the orders that the event open or closed last has given then. A call that is added has its record here, and its case
+-- in `Call` and `policyCall`.
+pub record PolicyCall : Type 0 where
+  pub after : Policy → Policy
+  pub orders : Policy → List Order → List Order
+
+-- an opening that is accepted begins the list anew
+abbrev pub opening : ℕ → ℕ → ℕ → Records → PolicyCall
+opening kind device detail r = record {
+  after = λ p. opens p kind device detail r;
+  orders = λ p l.
+      cond (eqb (openRefused p kind device detail) 0)
+      (cond (eqb kind 5) l (withOrder [] (event (p .registration) device (eventOf kind detail) (p .state) r)))
+      l;
+}
+
+abbrev pub answering : ℕ → Records → PolicyCall
+answering a r = record { after = λ p. answers (p .stand) p a r; orders = λ p l. answerOrders (p .stand) l a r }
+
+-- it changes nothing
+abbrev pub writing : PolicyCall
+writing = record { after = λ p. p; orders = λ p l. l }
+
+-- a call, with all its arguments
+pub data Call : Type 0 where
+  openEvent : ℕ → ℕ → ℕ → Records → Call
+  giveAnswer : ℕ → Records → Call
+  writePacket writePicture : Call
+
+abbrev pub policyCall : Call → PolicyCall
+policyCall (openEvent kind device detail r) = opening kind device detail r
+policyCall (giveAnswer a r) = answering a r
+policyCall writePacket = writing
+policyCall writePicture = writing
+
 abbrev pub policyAfter : Policy → Call → Policy
-policyAfter p (openEvent kind device detail r) = opens p kind device detail r
-policyAfter p (giveAnswer a r) = answers (p .stand) p a r
-policyAfter p writePacket = p
-policyAfter p writePicture = p
+policyAfter p c = policyCall c .after p
 
 -- after a list of calls
 abbrev pub policies : Policy → List Call → Policy

@@ -1,6 +1,6 @@
--- What turns a call back: a list of conditions with their numbers for each call. The first that holds gives the number. Each list ascends, so
--- that this is the lowest that applies.
-use Prim.Native.Nat.{ℕ, _≤_}
+-- What turns a call back: a list of conditions with their numbers for each call, in the order in which they are looked at. The first that holds gives the
+-- number.
+use Prim.Native.Nat.{ℕ, suc, _≤_}
 use mathlib.Core.Bool.{Bool, true, false, cond, not, _&&_, _||_}
 use mathlib.Core.List.{List, [], _∷_}
 use mathlib.Core.Logic.{_⊎_}
@@ -15,12 +15,25 @@ abbrev pub firstRefused : List (Bool × ℕ) → ℕ
 firstRefused [] = 0
 firstRefused (r ∷ rest) = cond (r .0) (r .1) (firstRefused rest)
 
--- each number is above n and above the one before it
-abbrev pub ascendsFrom : ℕ → List (Bool × ℕ) → Bool
-ascendsFrom n [] = true
-ascendsFrom n (r ∷ rest) = ltb n (r .1) && ascendsFrom (r .1) rest
+-- The numbers in the order in which they are looked at, whichever the call. Of 30 to 33 a packet meets one, the first from the left.
+abbrev pub order : List ℕ
+order = 20 ∷ 21 ∷ 22 ∷ 23 ∷ 24 ∷ 25 ∷ 26 ∷ 27 ∷ 28 ∷ 29 ∷ 30 ∷ 31 ∷ 32 ∷ 33 ∷ []
 
--- from above 0, which stands for no condition; so it is for each list here (proofs/Lowest.antt)
+-- a number's place in a list, counted from k on; 0 if it is not there
+abbrev pub placeFrom : ℕ → List ℕ → ℕ → ℕ
+placeFrom k [] n = 0
+placeFrom k (x ∷ l) n = cond (eqb x n) k (placeFrom (suc k) l n)
+
+-- its place in the order, from 1
+abbrev pub rank : ℕ → ℕ
+rank n = placeFrom 1 order n
+
+-- each number has a place, after k and after the one before it
+abbrev pub ascendsFrom : ℕ → List (Bool × ℕ) → Bool
+ascendsFrom k [] = true
+ascendsFrom k (r ∷ rest) = ltb k (rank (r .1)) && ascendsFrom (rank (r .1)) rest
+
+-- the list goes by the order; so does each list here (proofs/First.antt)
 abbrev pub Ascending : List (Bool × ℕ) → Type 0
 Ascending l = ascendsFrom 0 l ≡ true
 
@@ -29,12 +42,22 @@ abbrev pub Applies : ℕ → List (Bool × ℕ) → Type 0
 Applies n [] = ⊥
 Applies n (r ∷ rest) = ((r .0 ≡ true) × (r .1 ≡ n)) ⊎ Applies n rest
 
--- n is the lowest that applies, and 0 exactly if none does
+-- n is the first that applies by the order, and 0 exactly if none does
+pub record First (l : List (Bool × ℕ)) (n : ℕ) : Type 0 where
+  pub applies : (n ≡ 0 → ⊥) → Applies n l
+  pub before : (m : ℕ) → Applies m l → rank n ≤ rank m
+  pub none : n ≡ 0 → (m : ℕ) → Applies m l → ⊥
+  pub no-other : ((m : ℕ) → Applies m l → ⊥) → n ≡ 0
+
+-- document 01's numbers; among them the order is that of size, so that the first is the lowest applicable (proofs/First.antt)
+pub record Base (n : ℕ) : Type 0 where
+  pub least : 20 ≤ n
+  pub most : n ≤ 33
+
 pub record Lowest (l : List (Bool × ℕ)) (n : ℕ) : Type 0 where
   pub applies : (n ≡ 0 → ⊥) → Applies n l
   pub least : (m : ℕ) → Applies m l → n ≤ m
   pub none : n ≡ 0 → (m : ℕ) → Applies m l → ⊥
-  pub no-other : ((m : ℕ) → Applies m l → ⊥) → n ≡ 0
 
 -- start
 

@@ -39,8 +39,8 @@ use Rattle.interaction.specs.Machine.{standsAt}
 use Rattle.interaction.specs.Served.{numbered}
 use Rattle.interaction.proofs.Serves.{service, serviceAt, closed-answer, open-answer, moved-to, last-not-refused, below}
 use Rattle.wire.proofs.ReadWrite.{and-left, and-right}
-use Rattle.run.specs.Run.{afterCall, services}
-use Rattle.run.specs.Sized.{RecordsFit, CallFits, CallsFit}
+use Rattle.run.specs.Run.{afterCall, services, CallFits, CallsFit}
+use Rattle.run.specs.Sized.{RecordsFit}
 use Rattle.service_image.specs.WellFormed.{errorFits, resultFits, numberFits}
 use Rattle.invariant.proofs.Good.{Good, StateGood, MemoryGood, Limits, Parts, parts, good}
 use Rattle.invariant.proofs.Steps.{TurnGood, orders-most, process-good, answered-good}

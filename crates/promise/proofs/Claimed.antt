@@ -3,6 +3,7 @@ use mathlib.Core.Path.{refl}
 use Rattle.display.proofs.Set.{set-laws}
 use Rattle.power_policy_service.proofs.PairOrder.{pair-order}
 use Rattle.power_policy_service.proofs.TypeC.{rust-type-c, default-type-c}
+use Rattle.abstract_policy.proofs.First.{rank-size, base-lowest}
 use Rattle.promise.specs.Claim.{Claim}
 use Rattle.promise.proofs.LaidOut.{laid-out}
 use Rattle.promise.proofs.Meant.{accepted-means}
@@ -17,6 +18,8 @@ claimed = record {
   only-one = only-one;
   testers = testers;
   meaning = accepted-means;
+  rank-size = rank-size;
+  lowest = base-lowest;
   documents = record { set = set-laws; order = pair-order; type-c = rust-type-c; default-type-c = default-type-c };
   layout = laid-out;
 }

@@ -3,11 +3,17 @@
 use mathlib.Core.Path.{_≡_, refl, sym, ap, _∙_, subst}
 use mathlib.Core.Bool.{Bool, true, false, cond}
 use mathlib.Core.List.{List, [], _∷_}
-use Prim.Native.Nat.{ℕ}
-use lib.Dec.{eqb}
+use Prim.Native.Nat.{ℕ, _%_, _≤_}
+use native.Mathlib.Omega.{arith}
+use lib.Dec.{eqb, lit<}
 use lib.ListN.{length}
+use borrow.Author.Tests.{eqb-true, eqb-false}
 use Rattle.records.specs.Row.{AllBytes}
+use Rattle.display.specs.Providers.{none}
+use Rattle.display.specs.declared.OptionAvailableConsumer.{OptionAvailableConsumer}
 use Rattle.display.specs.declared.State.{State}
+use Rattle.abstract_policy.specs.Refusals.{firstRefused}
+use Rattle.abstract_policy.proofs.First.{first}
 use Rattle.wire.specs.Read.{readPacket}
 use Rattle.wire.specs.declared.packet.ReadPacket.{ReadPacket}
 use Rattle.abstract_desk.specs.Follower as paper
@@ -22,7 +28,12 @@ use Rattle.link.proofs.Alike.{alike}
 use Rattle.abstract_calls.specs.Called.{Called, called, refusedCall}
 use Rattle.abstract_calls.specs.Lent.{takeTo}
 use Rattle.abstract_calls.specs.Numbers.{doneNumber, refusedNumber, shownNumber, consumerNumber}
-use Rattle.abstract_calls.specs.Calls.{desk}
+use Rattle.abstract_calls.specs.Calls.{deskAfter, deskReturned, deskBufferIn, deskBufferAfter, desk, packetsOf, DeskBytes}
+use Rattle.abstract_calls.specs.Definition.{Refuses, followed, deskReturnTo, deskBufferTo, deskConditionsTo}
+use Rattle.abstract_calls.specs.DeskCall.{DeskCall, takePacket, readShown, readConsumer, readTracked, readConditions, shownBy, consumerBy, trackedBy}
+use Rattle.abstract_calls.proofs.OneToOne.{one-to-one}
+use Rattle.abstract_calls.proofs.Packets.{read-refuses}
+use Rattle.abstract_calls.proofs.Results.{packed-low, done-low}
 use Rattle.follower_image.specs.Image.{followerBytes, followerFrom}
 use Rattle.follower_image.specs.declared.ReadFollower.{ReadFollower}
 use Rattle.follower_image.proofs.OneImage.{follower-length, follower-bytes}
@@ -30,30 +41,29 @@ use Rattle.calls.specs.Calls.{takenCall, takeCall, readerCall, shownAs, tracked
 use Rattle.exported.specs.Ours.{functions}
 use Rattle.run_image.proofs.Takes.{each-keeps, desk-is, desk-fits, desk-read}
 use Rattle.promise.specs.Promise.{Follows, FollowerStarts}
-use Rattle.promise.specs.Runs.{shownBy, consumerBy, trackedBy}
 
 taken-number : (b : List ℕ) (f : Follower) (y : ReadPacket) → takenCall b f y .number ≡ takeTo y
 taken-number b f (ReadPacket.Refused n) = refl
 taken-number b f (ReadPacket.Packet p) = refl
 
-module _ (x : List ℕ) (e : length x ≡ 241) (l : List (List ℕ)) (a : EachBytes l) where
-  read : followerFrom (desk functions x l) ≡ record { ok = true; follower = followerAfter l }
-  read = desk-read x e l (each-keeps l a)
+module _ (x : List ℕ) (e : length x ≡ 241) (l : List DeskCall) (a : DeskBytes l) where
+  read : followerFrom (desk functions x l) ≡ record { ok = true; follower = followerAfter (packetsOf l) }
+  read = desk-read x e l (each-keeps (packetsOf l) a)
 
   size : length (desk functions x l) ≡ 241
-  size = ap length (desk-is x e l (each-keeps l a)) ∙ follower-length (followerAfter l)
+  size = ap length (desk-is x e l (each-keeps (packetsOf l) a)) ∙ follower-length (followerAfter (packetsOf l))
 
   number : (y : List ℕ) → takeCall (desk functions x l) y .number ≡ takeTo (readPacket y)
   number y =
       ap (λ (r : ReadFollower). cond {A = Called} (r .ok) (takenCall (desk functions x l) (r .follower) (readPacket y)) (refusedCall 21 (desk functions x l)) .number) read
-      ∙ taken-number (desk functions x l) (followerAfter l) (readPacket y)
+      ∙ taken-number (desk functions x l) (followerAfter (packetsOf l)) (readPacket y)
 
   back : (y : List ℕ) (n : ℕ) → readPacket y ≡ ReadPacket.Refused n → takeCall (desk functions x l) y .bytes ≡ desk functions x l
   back y n q =
       ap (λ (r : ReadFollower). cond {A = Called} (r .ok) (takenCall (desk functions x l) (r .follower) (readPacket y)) (refusedCall 21 (desk functions x l)) .bytes) read
-      ∙ ap (λ (z : ReadPacket). takenCall (desk functions x l) (followerAfter l) z .bytes) q
+      ∙ ap (λ (z : ReadPacket). takenCall (desk functions x l) (followerAfter (packetsOf l)) z .bytes) q
 
-  told : (t : Follower → ℕ) → readerCall (followerFrom (desk functions x l)) t ≡ t (followerAfter l)
+  told : (t : Follower → ℕ) → readerCall (followerFrom (desk functions x l)) t ≡ t (followerAfter (packetsOf l))
   told t = ap (λ (r : ReadFollower). readerCall r t) read
 
 -- what the code's follower tells is what document 01's does
@@ -85,6 +95,56 @@ module _ (l : List (List ℕ)) (a : EachBytes l) where
   tracked-same : trackedIn (followerAfter l .shown) ≡ trackedBy (paperAfter l)
   tracked-same = tracked-by (followerAfter l .shown) (followerAfter l .held) ∙ ap trackedBy same
 
+-- a reader is never turned back
+
+free : (n w : ℕ) → n % 256 ≡ w → (w ≡ 0 → ⊥) → Refuses [] n
+free n w e d = record { first = first [] refl; turned-back = λ z. absurd (z refl); accepted = λ z k. d (sym e ∙ k) }
+
+shown-low : (p : paper.Follower) → shownBy p % 256 ≡ 5
+shown-low (paper.lost floor) = packed-low 5 0 0 0 0 0 (lit< tt)
+shown-low (paper.showing n d l) = one-to-one .outcomes .shown (paper.state (paper.showing n d l)) n d
+
+consumer-low : (p : paper.Follower) → consumerBy p % 256 ≡ 6
+consumer-low (paper.lost floor) = one-to-one .outcomes .consumer OptionAvailableConsumer.None
+consumer-low (paper.showing n d l) = one-to-one .outcomes .consumer (d .consumer)
+
+tracked-low : (p : paper.Follower) → trackedBy p % 256 ≡ 7
+tracked-low (paper.lost floor) = one-to-one .outcomes .tracked none
+tracked-low (paper.showing n d l) = one-to-one .outcomes .tracked (d .providers)
+
+module _ (x : List ℕ) (e : length x ≡ 241) (l : List DeskCall) (a : DeskBytes l) where
+  returns : (c : DeskCall) → deskReturned functions (desk functions x l) c ≡ deskReturnTo (followed l) c
+  returns (takePacket y) = number x e l a y
+  returns readShown = told x e l a (λ f. shownAs (stateOf f) (f .shown)) ∙ shown-same (packetsOf l) a
+  returns readConsumer = told x e l a (λ f. consumerNumber (consumerOf (f .shown))) ∙ consumer-same (packetsOf l) a
+  returns readTracked = told x e l a (λ f. trackedIn (f .shown)) ∙ tracked-same (packetsOf l) a
+
+  told-refuses : (c : DeskCall) → Refuses (deskConditionsTo (followed l) c) (deskReturnTo (followed l) c)
+  told-refuses (takePacket y) = read-refuses y (readPacket y) refl
+  told-refuses readShown = free (shownBy (followed l)) 5 (shown-low (followed l)) (λ z. omega (arith, z))
+  told-refuses readConsumer = free (consumerBy (followed l)) 6 (consumer-low (followed l)) (λ z. omega (arith, z))
+  told-refuses readTracked = free (trackedBy (followed l)) 7 (tracked-low (followed l)) (λ z. omega (arith, z))
+
+  turned-back : (c : DeskCall) → deskReturned functions (desk functions x l) c % 256 ≡ 0 →
+      (deskAfter functions (desk functions x l) c ≡ desk functions x l) × (deskBufferAfter functions (desk functions x l) c ≡ deskBufferIn c)
+  turned-back (takePacket y) k = go (readPacket y) refl
+    where
+      go : (r : ReadPacket) → readPacket y ≡ r → (deskAfter functions (desk functions x l) (takePacket y) ≡ desk functions x l) × (_≡_ {A = List ℕ} [] [])
+      go (ReadPacket.Refused n) q = (back x e l a y n q, refl)
+      go (ReadPacket.Packet p) q =
+          absurd
+          (let z : _≡_ {A = ℕ} 4 0 = sym done-low ∙ (ap (λ (n : ℕ). n % 256) (sym (number x e l a y ∙ ap takeTo q)) ∙ k) in
+          omega (arith, z))
+  turned-back readShown k = (refl, refl)
+  turned-back readConsumer k = (refl, refl)
+  turned-back readTracked k = (refl, refl)
+
+  buffers : (c : DeskCall) → deskBufferAfter functions (desk functions x l) c ≡ deskBufferTo (followed l) c
+  buffers (takePacket y) = refl
+  buffers readShown = refl
+  buffers readConsumer = refl
+  buffers readTracked = refl
+
 ours-follows : (x : List ℕ) → length x ≡ 241 → Follows functions x
 ours-follows x e = record {
   fresh-lost = record {
@@ -92,13 +152,14 @@ ours-follows x e = record {
     consumer = told x e [] tt (λ f. consumerNumber (consumerOf (f .shown)));
     tracked = told x e [] tt (λ f. trackedIn (f .shown));
   };
-  take = λ l y a. number x e l a y;
-  turned-back = λ l y n a q. back x e l a y n q;
-  shown = λ l a. told x e l a (λ f. shownAs (stateOf f) (f .shown)) ∙ shown-same l a;
-  consumer = λ l a. told x e l a (λ f. consumerNumber (consumerOf (f .shown))) ∙ consumer-same l a;
-  tracked = λ l a. told x e l a (λ f. trackedIn (f .shown)) ∙ tracked-same l a;
+  refuses = λ l c a. subst (λ (n : ℕ). Refuses (deskConditionsTo (followed l) c) n) (sym (returns x e l a c)) (told-refuses x e l a c);
+  turned-back = λ l c a k. turned-back x e l a c k;
+  returns = λ l c a. returns x e l a c;
+  buffers = λ l c a. buffers x e l a c;
   size = λ l a. size x e l a;
-  bytes = λ l a. subst AllBytes (sym (desk-is x e l (each-keeps l a))) (follower-bytes (followerAfter l) (desk-fits x e l (each-keeps l a)));
+  bytes = λ l a.
+      subst AllBytes (sym (desk-is x e l (each-keeps (packetsOf l) a)))
+      (follower-bytes (followerAfter (packetsOf l)) (desk-fits x e l (each-keeps (packetsOf l) a)));
 }
 
 pub ours-follower-starts : (x : List ℕ) → FollowerStarts functions x

@@ -22,7 +22,8 @@ use Rattle.edges.specs.Edges.{edges}
 use Rattle.run.specs.Demands.{Equal}
 use Rattle.abstract_calls.specs.Called.{Called, refusedCall}
 use Rattle.abstract_calls.specs.Numbers.{refusedNumber, consumerNumber}
-use Rattle.abstract_calls.specs.Calls.{ByteCall, CallsBytes, images}
+use Rattle.abstract_calls.specs.ServiceCall.{ByteCall}
+use Rattle.abstract_calls.specs.Calls.{CallsBytes, images, packetsOf}
 use Rattle.abstract_calls.specs.Functions.{Arguments, configOf}
 use Rattle.abstract_calls.specs.Definition.{defined}
 use Rattle.abstract_calls.proofs.OneToOne.{one-to-one}
@@ -38,7 +39,7 @@ use Rattle.calls.specs.Calls.{takenCall, shownAs, trackedIn}
 use Rattle.exported.specs.Ours.{functions}
 use Rattle.run_image.proofs.Takes.{each-keeps, desk-read}
 use Rattle.run_image.proofs.Images.{image-read}
-use Rattle.run_image.proofs.Lowest.{call-refuses}
+use Rattle.run_image.proofs.First.{call-refuses}
 use Rattle.run_image.proofs.Turned.{call-back}
 use Rattle.run_image.proofs.Reached.{reached, reached-good, reached-equal, reached-image}
 use Rattle.promise.specs.Layout.{Layout}
@@ -90,7 +91,7 @@ laid-out = record {
     λ z. ap followerFrom (sym (z .0)) ∙ follower-read-write f (z .1),
   );
   holds = held;
-  follower-holds = λ x l e a. desk-read x e l (each-keeps l a);
+  follower-holds = λ x l e a. desk-read x e l (each-keeps (packetsOf l) a);
   bounded = λ b s h e.
       let z = accepted-good b s h e in
       (good-orders s z, good-rest s z);

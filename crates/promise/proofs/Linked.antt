@@ -11,6 +11,7 @@ use Rattle.display.specs.declared.Display.{Display}
 use Rattle.display.specs.declared.packet.EventPacket.{EventPacket}
 use Rattle.display.specs.declared.packet.Packet.{Packet}
 use Rattle.display.specs.declared.packet.Picture.{Picture}
+use Rattle.abstract_policy.specs.Policy.{started}
 use Rattle.abstract_policy.specs.declared.state.Registration.{Registration}
 use Rattle.service.specs.declared.Service.{Service}
 use Rattle.wire.specs.Bytes.{packetBytes}
@@ -29,7 +30,9 @@ use Rattle.link.proofs.Lists.{one-packet}
 use Rattle.run.specs.Demands as run
 use Rattle.run.specs.Demands.{OnLink}
 use Rattle.abstract_calls.specs.Numbers.{consumerNumber, shownNumber}
-use Rattle.abstract_calls.specs.Calls.{ByteCall, writePacket, writePicture, CallsBytes, desk}
+use Rattle.abstract_calls.specs.ServiceCall.{ByteCall, writePacket, writePicture}
+use Rattle.abstract_calls.specs.Calls.{CallsBytes, desk, packetsOf}
+use Rattle.abstract_calls.specs.DeskCall.{DeskCall, takePacket}
 use Rattle.abstract_calls.specs.Definition.{callsOf, defined, held}
 use Rattle.service_image.specs.Image.{serviceBytes}
 use Rattle.follower_image.specs.Fits.{shownFits}
@@ -39,6 +42,7 @@ use Rattle.follower_image.proofs.OneImage.{fits, picture-parts}
 use Rattle.invariant.proofs.Good.{Good}
 use Rattle.calls.specs.Calls.{readerCall, shownAs, trackedIn}
 use Rattle.exported.specs.Ours.{functions}
+use Rattle.abstract_calls.proofs.Lists.{packets-on}
 use Rattle.run_image.proofs.Takes.{AllKeep, all-keep, desk-fits, desk-read}
 use Rattle.run_image.proofs.Written.{Sent, bytes-left, packet-sent, picture-sent}
 use Rattle.promise.specs.Runs.{PacketOf, PictureOf, Handed, packet, picture, turned-back, AllHanded, In, Comes, NothingAbove, NoEventAbove, Lost, Shows}
@@ -59,7 +63,7 @@ IsRead (ReadPacket.Packet p) = Unit {0}
 same-picture : (v w : Picture) → Packet.Picture v ≡ Packet.Picture w → v ≡ w
 same-picture v w q = cc
 
-module _ (s : Service) (good : Good s) (demands : run.Demands s) (calls : List ByteCall) (bytes : CallsBytes calls) (on : OnLink s (callsOf (s .registration) calls)) where
+module _ (s : Service) (good : Good s) (demands : run.Demands s) (calls : List ByteCall) (bytes : CallsBytes calls) (on : OnLink s (callsOf (started (s .registration)) calls)) where
   abbrev g : Registration
   g = s .registration
 
@@ -178,96 +182,119 @@ module _ (s : Service) (good : Good s) (demands : run.Demands s) (calls : List B
       let z = event-of n y w in
       subst (λ (k : ℕ). k ≤ m) (z .number) (c (z .event) (met y (Packet.Event (z .event)) l (z .sent .read) i))
 
-  -- what the readers return of the follower after these takes
+  -- what the readers return of the follower after these calls
 
-  module _ (x : List ℕ) (size : length x ≡ 241) (l : List (List ℕ)) (q : AllHanded functions image g calls l) where
-    keep : AllKeep l
-    keep = all-keep source l (all-handed l q)
+  module _ (x : List ℕ) (size : length x ≡ 241) (l : List DeskCall) (q : AllHanded functions image g calls (packetsOf l)) where
+    keep : AllKeep (packetsOf l)
+    keep = all-keep source (packetsOf l) (all-handed (packetsOf l) q)
 
-    told : (t : Follower → Shown → ℕ) (u : Shown) → followerAfter l .shown ≡ u → readerCall (followerFrom (desk functions x l)) (λ f. t f (f .shown)) ≡ t (followerAfter l) u
-    told t u e = ap (λ (r : ReadFollower). readerCall r (λ f. t f (f .shown))) (desk-read x size l keep) ∙ ap (t (followerAfter l)) e
+    told : (t : Follower → Shown → ℕ) (u : Shown) → followerAfter (packetsOf l) .shown ≡ u → readerCall (followerFrom (desk functions x l)) (λ f. t f (f .shown)) ≡ t (followerAfter (packetsOf l)) u
+    told t u e = ap (λ (r : ReadFollower). readerCall r (λ f. t f (f .shown))) (desk-read x size l keep) ∙ ap (t (followerAfter (packetsOf l))) e
 
-    lost-by : taken.FollowerLost (followerAfter l) → Lost functions (desk functions x l)
+    lost-by : taken.FollowerLost (followerAfter (packetsOf l)) → Lost functions (desk functions x l)
     lost-by z = record {
       shown = told (λ f u. shownAs (stateOf f) u) (Shown.Lost (z .0)) (z .1);
       consumer = told (λ f u. consumerNumber (consumerOf u)) (Shown.Lost (z .0)) (z .1);
       tracked = told (λ f u. trackedIn u) (Shown.Lost (z .0)) (z .1);
     }
 
-    small : (n : ℕ) (d : Display) → taken.FollowerShows (followerAfter l) n d → d .unconstrained .available ≤ 16
+    small : (n : ℕ) (d : Display) → taken.FollowerShows (followerAfter (packetsOf l)) n d → d .unconstrained .available ≤ 16
     small n d e =
-        let k : pictureFits (record { number = n; display = d }) ≡ true = subst (λ (u : Shown). shownFits u ≡ true) e (fits (followerAfter l) (desk-fits x size l keep) .shown) in
+        let k : pictureFits (record { number = n; display = d }) ≡ true = subst (λ (u : Shown). shownFits u ≡ true) e (fits (followerAfter (packetsOf l)) (desk-fits x size l keep) .shown) in
         picture-parts (record { number = n; display = d }) k .available
 
-    shows-by : (n : ℕ) (d : Display) → taken.FollowerShows (followerAfter l) n d → Shows functions (desk functions x l) n d
+    shows-by : (n : ℕ) (d : Display) → taken.FollowerShows (followerAfter (packetsOf l)) n d → Shows functions (desk functions x l) n d
     shows-by n d e =
-        let r : functions .shown (desk functions x l) ≡ shownNumber (stateOf (followerAfter l)) n d =
+        let r : functions .shown (desk functions x l) ≡ shownNumber (stateOf (followerAfter (packetsOf l))) n d =
         told (λ f u. shownAs (stateOf f) u) (Shown.Picture (record { number = n; display = d })) e in
         record {
-          shown = level-or-waiting (functions .shown (desk functions x l)) n d (followerAfter l) e r;
-          number = ap (λ (y : ℕ). y / 4294967296) r ∙ shown-number (stateOf (followerAfter l)) n d (small n d e);
+          shown = level-or-waiting (functions .shown (desk functions x l)) n d (followerAfter (packetsOf l)) e r;
+          number = ap (λ (y : ℕ). y / 4294967296) r ∙ shown-number (stateOf (followerAfter (packetsOf l))) n d (small n d e);
           consumer = told (λ f u. consumerNumber (consumerOf u)) (Shown.Picture (record { number = n; display = d })) e;
           tracked = told (λ f u. trackedIn u) (Shown.Picture (record { number = n; display = d })) e;
         }
 
     -- lost or shown, it is the follower that is: it can be nothing else
 
-    is : taken.FollowerLost (followerAfter l) ⊎ ((n : ℕ) × source .Closed n × taken.FollowerShows (followerAfter l) n (source .held n))
-    is = on .demand .a l (all-handed l q)
+    is : taken.FollowerLost (followerAfter (packetsOf l)) ⊎ ((n : ℕ) × source .Closed n × taken.FollowerShows (followerAfter (packetsOf l)) n (source .held n))
+    is = on .demand .a (packetsOf l) (all-handed (packetsOf l) q)
 
-    by-lost : Lost functions (desk functions x l) → taken.FollowerLost (followerAfter l)
+    by-lost : Lost functions (desk functions x l) → taken.FollowerLost (followerAfter (packetsOf l))
     by-lost z =
         ⊎-elim (λ y. y)
         (λ y. absurd (not-lost (functions .shown (desk functions x l)) (y .0) (source .held (y .0)) (shows-by (y .0) (source .held (y .0)) (y .2) .shown) (z .shown)))
         is
 
-    by-shows : (n : ℕ) (d : Display) → Shows functions (desk functions x l) n d → taken.FollowerShows (followerAfter l) n (source .held n)
+    by-shows : (n : ℕ) (d : Display) → Shows functions (desk functions x l) n d → taken.FollowerShows (followerAfter (packetsOf l)) n (source .held n)
     by-shows n d z =
         ⊎-elim (λ y. absurd (not-lost (functions .shown (desk functions x l)) n d (z .shown) (lost-by y .shown)))
-        (λ y. subst (λ (m : ℕ). taken.FollowerShows (followerAfter l) m (source .held m)) (sym (shows-by (y .0) (source .held (y .0)) (y .2) .number) ∙ z .number) (y .2))
+        (λ y. subst (λ (m : ℕ). taken.FollowerShows (followerAfter (packetsOf l)) m (source .held m)) (sym (shows-by (y .0) (source .held (y .0)) (y .2) .number) ∙ z .number) (y .2))
         is
 
-    shows-at : (n : ℕ) → taken.FollowerShows (followerAfter l) n (source .held n) → Shows functions (desk functions x l) n (at n)
+    shows-at : (n : ℕ) → taken.FollowerShows (followerAfter (packetsOf l)) n (source .held n) → Shows functions (desk functions x l) n (at n)
     shows-at n z = subst (λ (d : Display). Shows functions (desk functions x l) n d) (on .held n) (shows-by n (source .held n) z)
 
   -- the four conclusions
 
   module _ (x : List ℕ) (size : length x ≡ 241) where
-    never-wrong : (l : List (List ℕ)) → AllHanded functions image g calls l →
+    never-wrong : (l : List DeskCall) → AllHanded functions image g calls (packetsOf l) →
         Lost functions (desk functions x l) ⊎ ((n : ℕ) × (n ≤ defined g calls .number) × Shows functions (desk functions x l) n (at n))
     never-wrong l q =
         ⊎-elim (λ z. inl (lost-by x size l q z)) (λ z. inr (z .0, on .closed (z .0) .0 (z .1), shows-at x size l q (z .0) (z .2))) (is x size l q)
 
-    follows : (before later : List (List ℕ)) (n k : ℕ) → AllHanded functions image g calls (before ++ later) →
-        Shows functions (desk functions x before) n (at n) → k ≤ 8 → Comes functions image g calls n k later →
-        NothingAbove functions image g calls (n + k) (before ++ later) → Shows functions (desk functions x (before ++ later)) (n + k) (at (n + k))
+    follows : (before later : List DeskCall) (n k : ℕ) → AllHanded functions image g calls (packetsOf (before ++ later)) →
+        Shows functions (desk functions x before) n (at n) → k ≤ 8 → Comes functions image g calls n k (packetsOf later) →
+        NothingAbove functions image g calls (n + k) (packetsOf (before ++ later)) → Shows functions (desk functions x (before ++ later)) (n + k) (at (n + k))
     follows before later n k q w le c a =
+        let e : packetsOf (before ++ later) ≡ packetsOf before ++ packetsOf later = packets-on before later in
+        let both : AllHanded functions image g calls (packetsOf before ++ packetsOf later) = subst (λ (l : List (List ℕ)). AllHanded functions image g calls l) e q in
         shows-at x size (before ++ later) q (n + k)
-        (on .demand .b before later n k (source .held n) (all-handed (before ++ later) q) (by-shows x size before (handed-left before later q) n (at n) w) le
-        (comes n k later c) (nothing-above (n + k) (before ++ later) q a))
+        (subst (λ (l : List (List ℕ)). taken.FollowerShows (followerAfter l) (n + k) (source .held (n + k))) (sym e)
+        (on .demand .b (packetsOf before) (packetsOf later) n k (source .held n) (all-handed (packetsOf before ++ packetsOf later) both)
+        (by-shows x size before (handed-left (packetsOf before) (packetsOf later) both) n (at n) w) le
+        (comes n k (packetsOf later) c)
+        (nothing-above (n + k) (packetsOf before ++ packetsOf later) both (subst (λ (l : List (List ℕ)). NothingAbove functions image g calls (n + k) l) e a))))
 
-    recovers : (before : List (List ℕ)) (n : ℕ) (y : List ℕ) → AllHanded functions image g calls before → PictureOf functions image g calls n y →
+    -- one packet more
+    module _ (before : List DeskCall) (y : List ℕ) where
+      one-more : packetsOf (before ++ (takePacket y ∷ [])) ≡ packetsOf before ++ (y ∷ [])
+      one-more = packets-on before (takePacket y ∷ [])
+
+      handed-more : AllHanded functions image g calls (packetsOf before) → Handed functions image g calls y → AllHanded functions image g calls (packetsOf (before ++ (takePacket y ∷ [])))
+      handed-more q h = subst (λ (l : List (List ℕ)). AllHanded functions image g calls l) (sym one-more) (and-one (packetsOf before) y q h)
+
+    recovers : (before : List DeskCall) (n : ℕ) (y : List ℕ) → AllHanded functions image g calls (packetsOf before) → PictureOf functions image g calls n y →
         Lost functions (desk functions x before) →
-        Shows functions (desk functions x (before ++ (y ∷ []))) n (at n) ↔ NoEventAbove functions image g calls n before
+        Shows functions (desk functions x (before ++ (takePacket y ∷ []))) n (at n) ↔ NoEventAbove functions image g calls n (packetsOf before)
     recovers before n y q w lost = (
       λ k.
-          no-lower n before
-          (subst (λ (m : ℕ). link.NoLower m before) (v .number) (z .1 (from (by-shows x size (before ++ (y ∷ [])) u n (at n) k)))),
-      λ k. shows-at x size (before ++ (y ∷ [])) u n (to (z .0 (subst (λ (m : ℕ). link.NoLower m before) (sym (v .number)) (no-event-above n before q k)))),
+          no-lower n met-before
+          (subst (λ (m : ℕ). link.NoLower m met-before) (v .number)
+          (z .1 (from (subst (λ (l : List (List ℕ)). taken.FollowerShows (followerAfter l) n (source .held n)) (one-more before y) (by-shows x size after u n (at n) k))))),
+      λ k.
+          shows-at x size after u n
+          (subst (λ (l : List (List ℕ)). taken.FollowerShows (followerAfter l) n (source .held n)) (sym (one-more before y))
+          (to (z .0 (subst (λ (m : ℕ). link.NoLower m met-before) (sym (v .number)) (no-event-above n met-before q k))))),
     )
       where
+        met-before : List (List ℕ)
+        met-before = packetsOf before
+
+        after : List DeskCall
+        after = before ++ (takePacket y ∷ [])
+
         v : View n y
         v = view-of n y w
 
-        u : AllHanded functions image g calls (before ++ (y ∷ []))
-        u = and-one before y q (picture n w)
+        u : AllHanded functions image g calls (packetsOf (before ++ (takePacket y ∷ [])))
+        u = handed-more before y q (picture n w)
 
         On : List ℕ → ℕ → Display → Type 0
-        On b m d = taken.FollowerShows (followerAfter (before ++ (b ∷ []))) m d
+        On b m d = taken.FollowerShows (followerAfter (packetsOf before ++ (b ∷ []))) m d
 
-        z : (link.NoLower (v .view .number) before → On (packetBytes (Packet.Picture (v .view))) (v .view .number) (v .view .display))
-            × (On (packetBytes (Packet.Picture (v .view))) (v .view .number) (v .view .display) → link.NoLower (v .view .number) before)
-        z = on .demand .c before (v .view) (all-handed before q) (v .sent .written) (by-lost x size before q lost)
+        z : (link.NoLower (v .view .number) (packetsOf before) → On (packetBytes (Packet.Picture (v .view))) (v .view .number) (v .view .display))
+            × (On (packetBytes (Packet.Picture (v .view))) (v .view .number) (v .view .display) → link.NoLower (v .view .number) (packetsOf before))
+        z = on .demand .c (packetsOf before) (v .view) (all-handed (packetsOf before) q) (v .sent .written) (by-lost x size before q lost)
 
         -- the bytes handed over are the picture's, its number is n and its display what was held there
         to : On (packetBytes (Packet.Picture (v .view))) (v .view .number) (v .view .display) → On y n (source .held n)
@@ -282,19 +309,20 @@ module _ (s : Service) (good : Good s) (demands : run.Demands s) (calls : List B
             (subst (λ (m : ℕ). On (packetBytes (Packet.Picture (v .view))) m (source .held n)) (sym (v .number))
             (subst (λ (b : List ℕ). On b n (source .held n)) (v .sent .bytes) h))
 
-    stays-lost : (before : List (List ℕ)) (y : List ℕ) → AllHanded functions image g calls before → Handed functions image g calls y →
-        Lost functions (desk functions x before) → ((n : ℕ) → PictureOf functions image g calls n y → NoEventAbove functions image g calls n before → ⊥) →
-        Lost functions (desk functions x (before ++ (y ∷ [])))
+    stays-lost : (before : List DeskCall) (y : List ℕ) → AllHanded functions image g calls (packetsOf before) → Handed functions image g calls y →
+        Lost functions (desk functions x before) → ((n : ℕ) → PictureOf functions image g calls n y → NoEventAbove functions image g calls n (packetsOf before) → ⊥) →
+        Lost functions (desk functions x (before ++ (takePacket y ∷ [])))
     stays-lost before y q h lost k =
-        lost-by x size (before ++ (y ∷ [])) (and-one before y q h)
-        (on .demand .d before y (all-handed before q) (handed y h) (by-lost x size before q lost) (go h))
+        lost-by x size (before ++ (takePacket y ∷ [])) (handed-more before y q h)
+        (subst (λ (l : List (List ℕ)). taken.FollowerLost (followerAfter l)) (sym (one-more before y))
+        (on .demand .d (packetsOf before) y (all-handed (packetsOf before) q) (handed y h) (by-lost x size before q lost) (go h)))
       where
-        go : Handed functions image g calls y → (p : Picture) → readPacket y ≡ ReadPacket.Packet (Packet.Picture p) → link.NoLower (p .number) before → ⊥
+        go : Handed functions image g calls y → (p : Picture) → readPacket y ≡ ReadPacket.Packet (Packet.Picture p) → link.NoLower (p .number) (packetsOf before) → ⊥
         go (packet n w) p r c = absurd (subst IsEvent (one-packet (event-of n y w .sent .read) r) tt)
         go (picture n w) p r c =
             let v = view-of n y w in
             let e : v .view ≡ p = same-picture (v .view) p (one-packet (v .sent .read) r) in
-            k n w (no-lower n before (subst (λ (m : ℕ). link.NoLower m before) (sym (ap (λ (z : Picture). z .number) e) ∙ v .number) c))
+            k n w (no-lower n (packetsOf before) (subst (λ (m : ℕ). link.NoLower m (packetsOf before)) (sym (ap (λ (z : Picture). z .number) e) ∙ v .number) c))
         go (turned-back n t) p r c = subst IsRead (sym r ∙ t) tt
 
     pub ours-link : Link functions image g calls x

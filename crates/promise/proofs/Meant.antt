@@ -15,12 +15,13 @@ use Rattle.abstract_policy.specs.Returns.{pushedAll, packetTo}
 use Rattle.abstract_policy.specs.declared.state.Registration.{Registration}
 use Rattle.abstract_policy.specs.declared.outcome.SentPacket.{SentPacket}
 use Rattle.abstract_policy.proofs.Orders.{run-counts}
+use Rattle.abstract_policy.proofs.Chosen.{run-chooses}
 use Rattle.service.specs.Service.{freshService}
 use Rattle.service.specs.declared.Service.{Service}
 use Rattle.interaction.proofs.Told.{at-most-four}
 use Rattle.run.specs.Demands as run
-use Rattle.abstract_policy.proofs.Chosen.{run-chooses}
-use Rattle.abstract_calls.specs.Calls.{ByteCall, CallsBytes}
+use Rattle.abstract_calls.specs.ServiceCall.{ByteCall}
+use Rattle.abstract_calls.specs.Calls.{CallsBytes}
 use Rattle.abstract_calls.specs.Functions.{Arguments, configOf}
 use Rattle.abstract_calls.specs.Definition.{callsOf, defined, Closes}
 use Rattle.invariant.proofs.Good.{Good, parts}
@@ -47,13 +48,13 @@ module _ (s : Service) (good : Good s) (demands : run.Demands s) where
   g = s .registration
 
   abbrev given : List ByteCall → ℕ
-  given l = length (ordersOf (started g) [] (callsOf g l))
+  given l = length (ordersOf (started g) [] (callsOf (started g) l))
 
   bound : (l : List ByteCall) → CallsBytes l → given l ≤ 3 + 4 * g .chargers
   bound l b =
       subst (λ (r : Registration). given l ≤ 3 + 4 * r .chargers) (reached-registration s good demands l b)
-      (orders-bound (reached s l) (defined g l) (ordersOf (started g) [] (callsOf g l)) (reached-good s good demands l b) (reached-equal s good demands l b)
-      (run-counts (callsOf g l) (started g) [] refl))
+      (orders-bound (reached s l) (defined g l) (ordersOf (started g) [] (callsOf (started g) l)) (reached-good s good demands l b) (reached-equal s good demands l b)
+      (run-counts (callsOf (started g) l) (started g) [] refl))
 
   closes : (l : List ByteCall) → CallsBytes l → Closes (g .chargers) (defined g l .stand)
   closes l b =
@@ -71,12 +72,12 @@ module _ (s : Service) (good : Good s) (demands : run.Demands s) where
   meant = record {
     bound = bound;
     closes = closes;
-    counted = λ l. run-counts (callsOf g l) (started g) [] refl;
+    counted = λ l. run-counts (callsOf (started g) l) (started g) [] refl;
     notices = notices;
     choice = run-chooses g (parts s good .limits .ports);
     orders-fit = λ l b. order-in-range (reached s l) (defined g l) (reached-good s good demands l b) (reached-equal s good demands l b);
     answers-fit = λ l b e. answer-in-range (reached s l) (defined g l) (reached-good s good demands l b) (reached-equal s good demands l b) e;
-    held-fits = λ l n b. held-in-range s good demands (callsOf g l) n (calls-fit g l b);
+    held-fits = λ l n b. held-in-range s good demands (callsOf (started g) l) n (calls-fit (started g) l b);
   }
 
 -- whatever a start accepts

@@ -7,7 +7,6 @@ use native.Mathlib.Omega.{arith}
 use lib.Dec.{eqb, ltb}
 use lib.ListN.{length}
 use borrow.Author.Tests.{eqb-true, eqb-false, eq-eqb}
-use Rattle.records.specs.Row.{AllBytes}
 use Rattle.power_policy_service.specs.declared.config.Config.{Config}
 use Rattle.power_policy_service.specs.declared.config.OptionConfig.{OptionConfig}
 use Rattle.abstract_policy.specs.Refusals.{firstRefused, startRefusals}
@@ -15,12 +14,16 @@ use Rattle.abstract_policy.specs.declared.state.Registration.{Registration}
 use Rattle.abstract_desk.specs.Takes.{EachBytes}
 use Rattle.abstract_calls.specs.Numbers.{doneNumber, refusedNumber}
 use Rattle.abstract_calls.specs.Called.{Called}
-use Rattle.abstract_calls.specs.Calls.{ByteCall, CallBytes, CallsBytes, imageAfter, returned, bufferAfter, images, takesOn, desk}
+use Rattle.abstract_calls.specs.ServiceCall.{ByteCall}
+use Rattle.abstract_calls.specs.Calls as called
+use Rattle.abstract_calls.specs.Calls.{CallBytes, CallsBytes, imageAfter, returned, bufferAfter, images, deskAfter, deskReturned, deskBufferAfter, DeskBytes}
+use Rattle.abstract_calls.specs.DeskCall.{DeskCall, deskCall}
 use Rattle.abstract_calls.specs.Functions.{Functions, Arguments, configOf}
 use Rattle.abstract_calls.specs.Definition.{startConditions}
+use Rattle.abstract_calls.proofs.Lists.{images-more, bytes-more, desks-more, desk-bytes-more}
 use Rattle.abstract_calls.proofs.Results.{refused-low, done-low}
 use Rattle.promise.specs.Promise.{doneOr, startRefused, registers, Serves, Promise}
-use Rattle.promise.specs.Same.{Call, start, call, follower-start, take, shown, consumer, tracked, OfBytes, seen, trace, Same}
+use Rattle.promise.specs.Same.{Call, start, call, follower-start, desk, OfBytes, seen, trace, Same}
 use Rattle.promise.proofs.Starts.{configured}
 
 done-zero : (n : ℕ) → doneOr n ≡ doneNumber → n ≡ 0
@@ -32,24 +35,6 @@ done-zero n e = go (eqb n 0) refl e
 
 zero-done : (n : ℕ) → n ≡ 0 → doneOr n ≡ doneNumber
 zero-done n e = ap doneOr e
-
--- one more call
-
-images-more : (f : Functions) (l : List ByteCall) (b : List ℕ) (c : ByteCall) → images f b (l ++ (c ∷ [])) ≡ imageAfter f (images f b l) c
-images-more f [] b c = refl
-images-more f (d ∷ l) b c = images-more f l (imageAfter f b d) c
-
-bytes-more : (l : List ByteCall) (c : ByteCall) → CallsBytes l → CallBytes c → CallsBytes (l ++ (c ∷ []))
-bytes-more [] c b h = (h, tt)
-bytes-more (d ∷ l) c b h = (b .0, bytes-more l c (b .1) h)
-
-takes-more : (f : Functions) (l : List (List ℕ)) (b y : List ℕ) → takesOn f b (l ++ (y ∷ [])) ≡ f .take (takesOn f b l) y .bytes
-takes-more f [] b y = refl
-takes-more f (z ∷ l) b y = takes-more f l (f .take b z .bytes) y
-
-each-more : (l : List (List ℕ)) (y : List ℕ) → EachBytes l → AllBytes y → EachBytes (l ++ (y ∷ []))
-each-more [] y b h = (h, tt)
-each-more (z ∷ l) y b h = (b .0, each-more l y (b .1) h)
 
 two : (n m : ℕ) (b c : List ℕ) (s t : List Called) → n ≡ m → b ≡ c → s ≡ t → _≡_ {A = List Called} (seen n b ∷ s) (seen m c ∷ t)
 two n m b c s t p q r = cc
@@ -72,10 +57,10 @@ module _ (f g : Functions) (p : Promise f) (q : Promise g) where
     lent-g : List ℕ
     size-f : length lent-f ≡ 241
     size-g : length lent-g ≡ 241
-    taken : List (List ℕ)
-    each : EachBytes taken
-    at-f : desk f lent-f taken ≡ x
-    at-g : desk g lent-g taken ≡ y
+    calls : List DeskCall
+    each : DeskBytes calls
+    at-f : called.desk f lent-f calls ≡ x
+    at-g : called.desk g lent-g calls ≡ y
 
   -- starts
 
@@ -96,7 +81,7 @@ module _ (f g : Functions) (p : Promise f) (q : Promise g) where
 
   fresh-desk : (x y : List ℕ) → length x ≡ 241 → length y ≡ 241 → AlikeDesk (f .follower-start x .bytes) (g .follower-start y .bytes)
   fresh-desk x y h k =
-      record { lent-f = x; lent-g = y; size-f = h; size-g = k; taken = []; each = tt; at-f = refl; at-g = refl }
+      record { lent-f = x; lent-g = y; size-f = h; size-g = k; calls = []; each = tt; at-f = refl; at-g = refl }
 
   module _ (b c : List ℕ) (s : Alike b c) where
     length-f : length b ≡ 67
@@ -147,45 +132,35 @@ module _ (f g : Functions) (p : Promise f) (q : Promise g) where
 
   module _ (x y : List ℕ) (s : AlikeDesk x y) where
     size-x : length x ≡ 241
-    size-x = ap length (sym (s .at-f)) ∙ p .follower-start (s .lent-f) .follows (s .size-f) .size (s .taken) (s .each)
+    size-x = ap length (sym (s .at-f)) ∙ p .follower-start (s .lent-f) .follows (s .size-f) .size (s .calls) (s .each)
 
     size-y : length y ≡ 241
-    size-y = ap length (sym (s .at-g)) ∙ q .follower-start (s .lent-g) .follows (s .size-g) .size (s .taken) (s .each)
+    size-y = ap length (sym (s .at-g)) ∙ q .follower-start (s .lent-g) .follows (s .size-g) .size (s .calls) (s .each)
 
     desk-start : f .follower-start x .number ≡ g .follower-start y .number
     desk-start =
         p .follower-start x .number ∙ (ap (λ (n : ℕ). cond {A = ℕ} (eqb n 241) doneNumber (refusedNumber 21)) (size-x ∙ sym size-y) ∙ sym (q .follower-start y .number))
 
-    take-number : (z : List ℕ) → f .take x z .number ≡ g .take y z .number
-    take-number z =
-        ap (λ (i : List ℕ). f .take i z .number) (sym (s .at-f)) ∙ (p .follower-start (s .lent-f) .follows (s .size-f) .take (s .taken) z (s .each)
-        ∙ (sym (q .follower-start (s .lent-g) .follows (s .size-g) .take (s .taken) z (s .each)) ∙ ap (λ (i : List ℕ). g .take i z .number) (s .at-g)))
+    desk-number : (d : DeskCall) → deskReturned f x d ≡ deskReturned g y d
+    desk-number d =
+        ap (λ (i : List ℕ). deskReturned f i d) (sym (s .at-f)) ∙ (p .follower-start (s .lent-f) .follows (s .size-f) .returns (s .calls) d (s .each)
+        ∙ (sym (q .follower-start (s .lent-g) .follows (s .size-g) .returns (s .calls) d (s .each)) ∙ ap (λ (i : List ℕ). deskReturned g i d) (s .at-g)))
 
-    shown-number : f .shown x ≡ g .shown y
-    shown-number =
-        ap (λ (i : List ℕ). f .shown i) (sym (s .at-f)) ∙ (p .follower-start (s .lent-f) .follows (s .size-f) .shown (s .taken) (s .each)
-        ∙ (sym (q .follower-start (s .lent-g) .follows (s .size-g) .shown (s .taken) (s .each)) ∙ ap (λ (i : List ℕ). g .shown i) (s .at-g)))
+    desk-buffer : (d : DeskCall) → deskBufferAfter f x d ≡ deskBufferAfter g y d
+    desk-buffer d =
+        ap (λ (i : List ℕ). deskBufferAfter f i d) (sym (s .at-f)) ∙ (p .follower-start (s .lent-f) .follows (s .size-f) .buffers (s .calls) d (s .each)
+        ∙ (sym (q .follower-start (s .lent-g) .follows (s .size-g) .buffers (s .calls) d (s .each)) ∙ ap (λ (i : List ℕ). deskBufferAfter g i d) (s .at-g)))
 
-    consumer-number : f .consumer x ≡ g .consumer y
-    consumer-number =
-        ap (λ (i : List ℕ). f .consumer i) (sym (s .at-f)) ∙ (p .follower-start (s .lent-f) .follows (s .size-f) .consumer (s .taken) (s .each)
-        ∙ (sym (q .follower-start (s .lent-g) .follows (s .size-g) .consumer (s .taken) (s .each)) ∙ ap (λ (i : List ℕ). g .consumer i) (s .at-g)))
-
-    tracked-number : f .tracked x ≡ g .tracked y
-    tracked-number =
-        ap (λ (i : List ℕ). f .tracked i) (sym (s .at-f)) ∙ (p .follower-start (s .lent-f) .follows (s .size-f) .tracked (s .taken) (s .each)
-        ∙ (sym (q .follower-start (s .lent-g) .follows (s .size-g) .tracked (s .taken) (s .each)) ∙ ap (λ (i : List ℕ). g .tracked i) (s .at-g)))
-
-    take-alike : (z : List ℕ) → AllBytes z → AlikeDesk (f .take x z .bytes) (g .take y z .bytes)
-    take-alike z h = record {
+    desk-alike : (d : DeskCall) → EachBytes (deskCall d .packets) → AlikeDesk (deskAfter f x d) (deskAfter g y d)
+    desk-alike d h = record {
       lent-f = s .lent-f;
       lent-g = s .lent-g;
       size-f = s .size-f;
       size-g = s .size-g;
-      taken = s .taken ++ (z ∷ []);
-      each = each-more (s .taken) z (s .each) h;
-      at-f = takes-more f (s .taken) (f .follower-start (s .lent-f) .bytes) z ∙ ap (λ (i : List ℕ). f .take i z .bytes) (s .at-f);
-      at-g = takes-more g (s .taken) (g .follower-start (s .lent-g) .bytes) z ∙ ap (λ (i : List ℕ). g .take i z .bytes) (s .at-g);
+      calls = s .calls ++ (d ∷ []);
+      each = desk-bytes-more (s .calls) d (s .each) h;
+      at-f = desks-more f (s .calls) (f .follower-start (s .lent-f) .bytes) d ∙ ap (λ (i : List ℕ). deskAfter f i d) (s .at-f);
+      at-g = desks-more g (s .calls) (g .follower-start (s .lent-g) .bytes) d ∙ ap (λ (i : List ℕ). deskAfter g i d) (s .at-g);
     }
 
   alike : (l : List Call) (b c x y : List ℕ) → OfBytes l → Alike b c → AlikeDesk x y → trace f b x l ≡ trace g c y l
@@ -197,11 +172,8 @@ module _ (f g : Functions) (p : Promise f) (q : Promise g) where
   alike (follower-start ∷ l) b c x y h s t =
       two _ _ _ _ _ _ (desk-start x y t) refl
       (alike l b c (f .follower-start x .bytes) (g .follower-start y .bytes) h s (fresh-desk x y (size-x x y t) (size-y x y t)))
-  alike (take z ∷ l) b c x y h s t =
-      two _ _ _ _ _ _ (take-number x y t z) refl (alike l b c (f .take x z .bytes) (g .take y z .bytes) (h .1) s (take-alike x y t z (h .0)))
-  alike (shown ∷ l) b c x y h s t = two _ _ _ _ _ _ (shown-number x y t) refl (alike l b c x y h s t)
-  alike (consumer ∷ l) b c x y h s t = two _ _ _ _ _ _ (consumer-number x y t) refl (alike l b c x y h s t)
-  alike (tracked ∷ l) b c x y h s t = two _ _ _ _ _ _ (tracked-number x y t) refl (alike l b c x y h s t)
+  alike (desk d ∷ l) b c x y h s t =
+      two _ _ _ _ _ _ (desk-number x y t d) (desk-buffer x y t d) (alike l b c (deskAfter f x d) (deskAfter g y d) (h .1) s (desk-alike x y t d (h .0)))
 
   sized : (x : List ℕ) → f .follower-start x .number ≡ doneNumber → length x ≡ 241
   sized x e = go (eqb (length x) 241) refl (sym (p .follower-start x .number) ∙ e)
@@ -233,10 +205,8 @@ module _ (f g : Functions) (p : Promise f) (q : Promise g) where
         let y = p .other-length .service b c e in
         let z = q .other-length .service b c e in
         (y .0 ∙ sym (z .0), (y .1 ∙ sym (z .1), y .2 ∙ sym (z .2)));
-    follower-other = λ b y e.
-        let s = p .other-length .take b y e in
-        let t = q .other-length .take b y e in
-        let u = p .other-length .readers b e in
-        let v = q .other-length .readers b e in
-        (s .0 ∙ sym (t .0), (s .1 ∙ sym (t .1), (u .0 ∙ sym (v .0), (u .1 ∙ sym (v .1), u .2 ∙ sym (v .2)))));
+    follower-other = λ b c e.
+        let y = p .other-length .desk b c e in
+        let z = q .other-length .desk b c e in
+        (y .0 ∙ sym (z .0), (y .1 ∙ sym (z .1), y .2 ∙ sym (z .2)));
   }

@@ -13,7 +13,7 @@ use Rattle.display.specs.declared.packet.Picture.{Picture}
 use Rattle.power_policy_service.specs.declared.config.Config.{Config}
 use Rattle.power_policy_service.specs.declared.config.OptionConfig.{OptionConfig}
 use Rattle.abstract_policy.specs.Refusals.{firstRefused, Applies, waiting}
-use Rattle.abstract_policy.specs.Policy.{Policy, Stand, between, at, orderAt, isAt}
+use Rattle.abstract_policy.specs.Policy.{Policy, Stand, between, at, orderAt, isAt, started}
 use Rattle.abstract_policy.specs.Returns.{packetTo, pictureTo}
 use Rattle.abstract_policy.specs.declared.state.Registration.{Registration}
 use Rattle.abstract_policy.specs.declared.outcome.SentPacket.{SentPacket}
@@ -32,7 +32,9 @@ use Rattle.run.proofs.Linked.{after-start}
 use Rattle.run.proofs.Starts.{start-fits}
 use Rattle.abstract_calls.specs.Called.{Called, refusedCall}
 use Rattle.abstract_calls.specs.Numbers.{refusedNumber, consumerNumber}
-use Rattle.abstract_calls.specs.Calls.{ByteCall, openEvent, giveAnswer, readOrder, writePacket, writePicture, bufferIn, CallsBytes, imageAfter, returned, bufferAfter, images, Writes}
+use Rattle.abstract_calls.specs.ServiceCall.{ByteCall, openEvent, giveAnswer, readOrder, writePacket, writePicture}
+use Rattle.abstract_calls.specs.Calls.{bufferIn, CallsBytes, imageAfter, returned, bufferAfter, images, Writes, deskAfter, deskReturned, deskBufferIn, deskBufferAfter}
+use Rattle.abstract_calls.specs.DeskCall.{DeskCall, takePacket, readShown, readConsumer, readTracked}
 use Rattle.abstract_calls.specs.Functions.{Arguments, configOf}
 use Rattle.abstract_calls.specs.Definition.{callsOf, defined, conditionsTo, Refuses}
 use Rattle.service_image.specs.Image.{serviceBytes, serviceFrom}
@@ -43,9 +45,10 @@ use Rattle.follower_image.specs.Image.{followerFrom}
 use Rattle.invariant.proofs.Good.{Good}
 use Rattle.calls.specs.Calls.{startCall, onService, orderCall, writePacketCall, writePictureCall, takenCall, readerCall, shownAs, trackedIn}
 use Rattle.exported.specs.Ours.{functions}
+use Rattle.abstract_calls.proofs.Lists.{no-bytes}
 use Rattle.run_image.specs.Refused.{ofImage, refusalsOf}
 use Rattle.run_image.proofs.Images.{calls-fit, image-read}
-use Rattle.run_image.proofs.Lowest.{call-refuses, start-refuses}
+use Rattle.run_image.proofs.First.{call-refuses, start-refuses}
 use Rattle.run_image.proofs.Reached.{reached, reached-good, reached-equal, reached-image, reached-returns, reached-buffers, fits-good}
 use Rattle.run_image.proofs.Turned.{call-back}
 use Rattle.run_image.proofs.Written.{packet-sent, picture-sent}
@@ -58,11 +61,11 @@ use Rattle.promise.proofs.Starts.{Leaves, start-leaves, start-number, s
 
 without : (l : List (Bool × ℕ)) (n : ℕ) → Refuses ((false, 21) ∷ l) n → Refuses l n
 without l n r = record {
-  lowest = record {
-    applies = λ z. go (firstRefused l) (r .lowest .applies z);
-    least = λ m a. r .lowest .least m (inr a);
-    none = λ e m a. r .lowest .none e m (inr a);
-    no-other = λ k. r .lowest .no-other (λ m a. k m (go m a));
+  first = record {
+    applies = λ z. go (firstRefused l) (r .first .applies z);
+    before = λ m a. r .first .before m (inr a);
+    none = λ e m a. r .first .none e m (inr a);
+    no-other = λ k. r .first .no-other (λ m a. k m (go m a));
   };
   turned-back = r .turned-back;
   accepted = r .accepted;
@@ -111,22 +114,22 @@ module _ (s : Service) (good : Good s) (demands : run.Demands s) where
       (e : EventPacket) × (packetTo (defined g l) ≡ SentPacket.Packet e) × (readPacket y ≡ ReadPacket.Packet (Packet.Event e))
   packet-read l buffer y b w =
       let calls : List ByteCall = l ++ (writePacket buffer ∷ []) in
-      let z = packet-sent s good demands calls (demands .demand-3 (callsOf g calls) (calls-fit g calls (more l b))) l [] b buffer y refl w in
+      let z = packet-sent s good demands calls (demands .demand-3 (callsOf (started g) calls) (calls-fit (started g) calls (more l b))) l [] b buffer y refl w in
       (z .0, z .1, z .2 .read)
     where
       more : (m : List ByteCall) → CallsBytes m → CallsBytes (m ++ (writePacket buffer ∷ []))
-      more [] k = (tt, tt)
+      more [] k = (no-bytes, tt)
       more (c ∷ m) k = (k .0, more m (k .1))
 
   picture-read : (l : List ByteCall) (buffer y : List ℕ) → CallsBytes l → Writes functions (images functions image l) (writePicture buffer) y →
       (v : Picture) × (pictureTo (defined g l) ≡ SentPicture.Picture v) × (readPacket y ≡ ReadPacket.Packet (Packet.Picture v))
   picture-read l buffer y b w =
       let calls : List ByteCall = l ++ (writePicture buffer ∷ []) in
-      let z = picture-sent s good demands calls (demands .demand-3 (callsOf g calls) (calls-fit g calls (more l b))) l [] b buffer y refl w in
+      let z = picture-sent s good demands calls (demands .demand-3 (callsOf (started g) calls) (calls-fit (started g) calls (more l b))) l [] b buffer y refl w in
       (z .0, z .1, z .2 .read)
     where
       more : (m : List ByteCall) → CallsBytes m → CallsBytes (m ++ (writePicture buffer ∷ []))
-      more [] k = (tt, tt)
+      more [] k = (no-bytes, tt)
       more (c ∷ m) k = (k .0, more m (k .1))
 
   ours-serves : Serves functions image g
@@ -141,7 +144,7 @@ module _ (s : Service) (good : Good s) (demands : run.Demands s) where
     bytes = λ l b.
         let h = reached-good s good demands l b in
         subst AllBytes (reached-image s good demands l b) (service-bytes (reached s l) (h .typed) (h .fits));
-    link = λ calls b x e. ours-link s good demands calls b (demands .demand-3 (callsOf g calls) (calls-fit g calls b)) x e;
+    link = λ calls b x e. ours-link s good demands calls b (demands .demand-3 (callsOf (started g) calls) (calls-fit (started g) calls b)) x e;
   }
 
 -- a service that a start gave
@@ -189,20 +192,30 @@ service-other b (writePicture buffer) e =
     let q = no-service b e in
     (ap (λ (r : ReadService). writePictureCall r buffer .number) q, refl, ap (λ (r : ReadService). writePictureCall r buffer .bytes) q)
 
-follower-other : (b : List ℕ) (t : Follower → ℕ) → eqb (length b) 241 ≡ false → readerCall (followerFrom b) t ≡ refusedNumber 21
-follower-other b t e = ap (λ (x : Bool). cond {A = ℕ} x (t (followerFrom b .follower)) (refusedNumber 21)) (no-follower b e)
+desk-other : (b : List ℕ) (c : DeskCall) → eqb (length b) 241 ≡ false →
+    (deskReturned functions b c ≡ refusedNumber 21) × (deskAfter functions b c ≡ b) × (deskBufferAfter functions b c ≡ deskBufferIn c)
+desk-other b c e = go c
+  where
+    none : followerFrom b .ok ≡ false
+    none = no-follower b e
 
-take-other : (b y : List ℕ) → eqb (length b) 241 ≡ false → (functions .take b y .number ≡ refusedNumber 21) × (functions .take b y .bytes ≡ b)
-take-other b y e =
-    let q = no-follower b e in (
-      ap (λ (x : Bool). cond {A = Called} x (takenCall b (followerFrom b .follower) (readPacket y)) (refusedCall 21 b) .number) q,
-      ap (λ (x : Bool). cond {A = Called} x (takenCall b (followerFrom b .follower) (readPacket y)) (refusedCall 21 b) .bytes) q,
+    reader : (t : Follower → ℕ) → readerCall (followerFrom b) t ≡ refusedNumber 21
+    reader t = ap (λ (x : Bool). cond {A = ℕ} x (t (followerFrom b .follower)) (refusedNumber 21)) none
+
+    go : (c : DeskCall) → (deskReturned functions b c ≡ refusedNumber 21) × (deskAfter functions b c ≡ b) × (deskBufferAfter functions b c ≡ deskBufferIn c)
+    go (takePacket y) = (
+      ap (λ (x : Bool). cond {A = Called} x (takenCall b (followerFrom b .follower) (readPacket y)) (refusedCall 21 b) .number) none,
+      ap (λ (x : Bool). cond {A = Called} x (takenCall b (followerFrom b .follower) (readPacket y)) (refusedCall 21 b) .bytes) none,
+      refl,
     )
+    go readShown = (reader (λ f. shownAs (stateOf f) (f .shown)), refl, refl)
+    go readConsumer = (reader (λ f. consumerNumber (consumerOf (f .shown))), refl, refl)
+    go readTracked = (reader (λ f. trackedIn (f .shown)), refl, refl)
 
 pub promised : Promise functions
 promised = record {
   start = λ image a. record {
-    lowest = start-refuses image (configOf a) (a .ports) (a .chargers) .lowest;
+    first = start-refuses image (configOf a) (a .ports) (a .chargers) .first;
     number = start-number image (a .ports) (a .chargers) (configOf a);
     turned-back = start-back image (a .ports) (a .chargers) (configOf a);
     serves = start-serves image a;
@@ -210,11 +223,6 @@ promised = record {
   follower-start = ours-follower-starts;
   other-length = record {
     service = service-other;
-    take = take-other;
-    readers = λ b e. (
-      follower-other b (λ f. shownAs (stateOf f) (f .shown)) e,
-      follower-other b (λ f. consumerNumber (consumerOf (f .shown))) e,
-      follower-other b (λ f. trackedIn (f .shown)) e,
-    );
+    desk = desk-other;
   };
 }

@@ -26,9 +26,12 @@ use Rattle.wire.specs.declared.packet.ReadPacket.{ReadPacket}
 use Rattle.link.specs.Source.{numberIn}
 use Rattle.link.proofs.Lists.{one-packet}
 use Rattle.abstract_calls.specs.Numbers.{lostNumber, closedNumber}
-use Rattle.abstract_calls.specs.Calls.{ByteCall, openEvent, giveAnswer, writePacket, writePicture, CallsBytes, imageAfter, returned, bufferAfter, images, desk}
+use Rattle.abstract_calls.specs.ServiceCall.{ByteCall, openEvent, giveAnswer, writePacket, writePicture}
+use Rattle.abstract_calls.specs.Calls.{CallsBytes, imageAfter, returned, bufferAfter, images, desk}
+use Rattle.abstract_calls.specs.DeskCall.{takePacket}
 use Rattle.abstract_calls.specs.Functions.{Functions, Arguments, arguments, configOf}
 use Rattle.abstract_calls.specs.Definition.{defined, held, returnTo, bufferTo}
+use Rattle.abstract_calls.proofs.Lists.{no-bytes}
 use Rattle.abstract_calls.proofs.Results.{refused-low}
 use Rattle.follower_image.proofs.Notices.{and-left, and-right}
 use Rattle.exported.specs.Ours.{functions}
@@ -121,10 +124,10 @@ offers-bytes : AllBytes offers
 offers-bytes = below offers refl
 
 before-bytes : CallsBytes before-packet
-before-bytes = (tt, (offers-bytes, (offers-bytes, (offers-bytes, tt))))
+before-bytes = (no-bytes, (offers-bytes, (offers-bytes, (offers-bytes, tt))))
 
 calls-bytes : CallsBytes calls
-calls-bytes = (tt, (offers-bytes, (offers-bytes, (offers-bytes, (tt, tt)))))
+calls-bytes = (no-bytes, (offers-bytes, (offers-bytes, (offers-bytes, (no-bytes, tt)))))
 
 -- what the definition says of it, computed
 
@@ -255,7 +258,7 @@ module _ (f : Functions) (promise : Promise f) where
   packet-ok n e = closed-ok
 
   -- a fresh follower is lost, and the picture is shown
-  shows-0 : Shows f (desk f X (y0 ∷ [])) 0 (held (g 1) calls 0)
+  shows-0 : Shows f (desk f X (takePacket y0 ∷ [])) 0 (held (g 1) calls 0)
   shows-0 = link .recovers [] 0 y0 tt picture-0 (promise .follower-start X .follows follower-zeros .fresh-lost) .1 (λ n y i w. absurd i)
 
   -- and after its packet, event 1
@@ -285,8 +288,8 @@ module _ (f : Functions) (promise : Promise f) where
       omega (arith, z, read-1 .2)
   above n y (inr (inr e)) w = absurd e
 
-  shows-1 : Shows f (desk f X (y0 ∷ y1 ∷ [])) 1 (held (g 1) calls 1)
-  shows-1 = link .follows (y0 ∷ []) (y1 ∷ []) 0 1 (picture 0 picture-0, (packet 1 (packet-at 1 refl), tt)) shows-0 (omega arith) comes above
+  shows-1 : Shows f (desk f X (takePacket y0 ∷ takePacket y1 ∷ [])) 1 (held (g 1) calls 1)
+  shows-1 = link .follows (takePacket y0 ∷ []) (takePacket y1 ∷ []) 0 1 (picture 0 picture-0, (packet 1 (packet-at 1 refl), tt)) shows-0 (omega arith) comes above
 
 -- the second run, of two ports: port 1 offers alone
 

@@ -18,7 +18,7 @@ use Rattle.abstract_calls.specs.Numbers.{doneNumber, refusedNumber}
 use Rattle.abstract_calls.specs.Definition.{startConditions}
 use Rattle.service_image.specs.Image.{serviceBytes}
 use Rattle.calls.specs.Calls.{startedCall, startCall}
-use Rattle.run_image.proofs.Lowest.{start-refuses}
+use Rattle.run_image.proofs.First.{start-refuses}
 use Rattle.promise.specs.Promise.{doneOr}
 
 module _ (image : List ℕ) (ports chargers : ℕ) where

@@ -1,7 +1,9 @@
 -- The whole claim. Its one value is `claimed` (proofs/Claimed.antt).
-use mathlib.Core.Path.{_≡_}
+use mathlib.Core.Bool.{Bool}
 use mathlib.Core.List.{List}
-use Prim.Native.Nat.{ℕ}
+use mathlib.Core.Logic.{_↔_}
+use mathlib.Core.Path.{_≡_}
+use Prim.Native.Nat.{ℕ, _≤_}
 use lib.ListN.{replicate}
 use Rattle.display.specs.Set.{SetLaws}
 use Rattle.power_policy_service.specs.Config.{rustDefault, defaultConfig}
@@ -9,6 +11,7 @@ use Rattle.power_policy_service.specs.PairOrder.{PairOrder}
 use Rattle.power_policy_service.specs.TypeC.{TypeC}
 use Rattle.power_policy_service.specs.declared.config.Config.{Config}
 use Rattle.power_policy_service.specs.declared.config.OptionConfig.{OptionConfig}
+use Rattle.abstract_policy.specs.Refusals.{rank, Applies, First, Base, Lowest}
 use Rattle.abstract_calls.specs.Functions.{Functions, Arguments, arguments, configOf}
 use Rattle.exported.specs.Ours.{functions}
 use Rattle.promise.specs.Layout.{Layout}
@@ -37,5 +40,8 @@ pub record Claim : Type 0 where
   pub testers : Testers
   -- what the definition's words come to, of whatever a start accepts
   pub meaning : (image : List ℕ) (a : Arguments) → startRefused image a ≡ 0 → (c : Config) → configOf a ≡ OptionConfig.Some c → Meaning (registers a c)
+  -- document 01's "lowest applicable": among its numbers the order in which conditions are looked at is that of size
+  pub rank-size : (n m : ℕ) → Base n → Base m → (rank n ≤ rank m) ↔ (n ≤ m)
+  pub lowest : (l : List (Bool × ℕ)) (n : ℕ) → ((m : ℕ) → Applies m l → Base m) → First l n → Lowest l n
   pub documents : Documents
   pub layout : Layout

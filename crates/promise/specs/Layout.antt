@@ -25,7 +25,6 @@ use Rattle.wire.specs.Read.{readPacket}
 use Rattle.wire.specs.WellFormed as wire
 use Rattle.wire.specs.declared.number.ReadNumber.{ReadNumber}
 use Rattle.wire.specs.declared.packet.ReadPacket.{ReadPacket}
-use Rattle.abstract_desk.specs.Takes.{EachBytes}
 use Rattle.follower.specs.declared.Follower.{Follower}
 use Rattle.report.specs.Desk.{follow}
 use Rattle.report.specs.Reads.{run}
@@ -35,7 +34,9 @@ use Rattle.run.specs.Demands.{Equal}
 use Rattle.abstract_calls.specs.Called.{refusedCall}
 use Rattle.abstract_calls.specs.Numbers.{refusedNumber}
 use Rattle.abstract_calls.specs.OneToOne.{OneToOne}
-use Rattle.abstract_calls.specs.Calls.{ByteCall, bufferIn, CallsBytes, imageAfter, returned, bufferAfter, images, desk}
+use Rattle.abstract_calls.specs.ServiceCall.{ByteCall}
+use Rattle.abstract_calls.specs.Calls.{bufferIn, CallsBytes, imageAfter, returned, bufferAfter, images, desk, packetsOf, DeskBytes}
+use Rattle.abstract_calls.specs.DeskCall.{DeskCall}
 use Rattle.abstract_calls.specs.Functions.{Arguments, configOf}
 use Rattle.abstract_calls.specs.Definition.{defined, Refuses}
 use Rattle.service_image.specs.Image.{serviceBytes, serviceFrom}
@@ -60,9 +61,10 @@ pub record Layout : Type 0 where
   pub holds :
       (image : List ℕ) (a : Arguments) → startRefused image a ≡ 0 → (c : Config) → configOf a ≡ OptionConfig.Some c → (l : List ByteCall) → CallsBytes l →
       (s : Service) × (serviceFrom (images functions (functions .start image a .bytes) l) ≡ ReadService.Read s) × Equal s (defined (registers a c) l)
-  -- Likewise a follower's, after its start and any takes.
+  -- Likewise a follower's, after its start and any calls.
   pub follower-holds :
-      (x : List ℕ) (l : List (List ℕ)) → length x ≡ followerLength → EachBytes l → followerFrom (desk functions x l) ≡ record { ok = true; follower = followerAfter l }
+      (x : List ℕ) (l : List DeskCall) → length x ≡ followerLength → DeskBytes l →
+      followerFrom (desk functions x l) ≡ record { ok = true; follower = followerAfter (packetsOf l) }
   -- No image that is accepted, reached or not, passes the bound on orders.
   pub bounded :
       (b : List ℕ) (s : Service) → AllBytes b → serviceFrom b ≡ ReadService.Read s →
@@ -75,7 +77,7 @@ pub record Layout : Type 0 where
       × ((functions .shown b ≡ refusedNumber 21) × ((functions .consumer b ≡ refusedNumber 21) × (functions .tracked b ≡ refusedNumber 21)))
   pub takes-on :
       (b y : List ℕ) (f : Follower) → followerFrom b ≡ record { ok = true; follower = f } → functions .take b y ≡ takenCall b f (readPacket y)
-  -- On any bytes a call of the service is refused by the lowest number that applies, 21 first,
+  -- On any bytes a call of the service is refused by the first number that applies, 21 before all others,
   pub refuses : (b : List ℕ) (c : ByteCall) → Refuses (conditions b c) (returned functions b c)
   -- and then leaves every byte.
   pub turned-back : (b : List ℕ) (c : ByteCall) → returned functions b c % 256 ≡ 0 → (imageAfter functions b c ≡ b) × (bufferAfter functions b c ≡ bufferIn c)

@@ -4,9 +4,9 @@
 -- Ours keep it (proofs/Promised.antt), and only one behaviour does (Same.antt, proofs/OnlyOne.antt). The whole claim is Claim.antt: beside Promise and Meaning
 -- the bytes themselves (Layout.antt), the public documents, and the programs that do not keep it (Testers.antt).
 --
--- To read what is cited, in this order; 1,700 lines, none of them the machine's (tests/reach.py):
+-- To read what is cited, in this order; 1,850 lines, none of them the machine's (tests/reach.py):
 --   promise      here, then Runs.antt: what the link hands over and what is shown
---   calls        abstract_calls specs/Functions.antt, Calls.antt (of any program), Definition.antt (what the definition says of each; its conditions)
+--   calls        abstract_calls specs/Functions.antt, ServiceCall.antt, DeskCall.antt (each call, of any program and of the definition), Calls.antt, Definition.antt
 --   run          abstract_policy specs/Policy.antt, Returns.antt, Orders.antt, Given.antt
 --   event        abstract_policy specs/Action.antt, Interaction.antt, State.antt, to be laid beside the Rust
 --   choice, grant, configuration
@@ -30,7 +30,7 @@ use Rattle.display.specs.declared.packet.Packet.{Packet}
 use Rattle.display.specs.declared.packet.Picture.{Picture}
 use Rattle.power_policy_service.specs.declared.config.Config.{Config}
 use Rattle.power_policy_service.specs.declared.config.OptionConfig.{OptionConfig}
-use Rattle.abstract_policy.specs.Refusals.{firstRefused, Lowest}
+use Rattle.abstract_policy.specs.Refusals.{firstRefused, First}
 use Rattle.abstract_policy.specs.Chosen.{Choices}
 use Rattle.abstract_policy.specs.Orders.{ordersOf, Counted}
 use Rattle.abstract_policy.specs.Policy.{between, started}
@@ -40,14 +40,14 @@ use Rattle.abstract_policy.specs.declared.outcome.SentPacket.{SentPacket}
 use Rattle.abstract_policy.specs.declared.outcome.SentPicture.{SentPicture}
 use Rattle.wire.specs.Read.{readPacket}
 use Rattle.wire.specs.declared.packet.ReadPacket.{ReadPacket}
-use Rattle.abstract_desk.specs.Takes.{paperAfter, EachBytes}
-use Rattle.abstract_calls.specs.Lent.{takeTo}
 use Rattle.abstract_calls.specs.Numbers.{refusedNumber, doneNumber}
 use Rattle.abstract_calls.specs.OneToOne.{AnswerFits, DisplayFits}
-use Rattle.abstract_calls.specs.Calls.{ByteCall, writePacket, writePicture, bufferIn, CallsBytes, imageAfter, returned, bufferAfter, images, Writes, desk}
+use Rattle.abstract_calls.specs.ServiceCall.{ByteCall, writePacket, writePicture}
+use Rattle.abstract_calls.specs.Calls.{bufferIn, CallsBytes, imageAfter, returned, bufferAfter, images, Writes, deskAfter, deskReturned, deskBufferIn, deskBufferAfter, desk, packetsOf, DeskBytes}
+use Rattle.abstract_calls.specs.DeskCall.{DeskCall, takePacket}
 use Rattle.abstract_calls.specs.Functions.{Functions, Arguments, configOf}
-use Rattle.abstract_calls.specs.Definition.{callsOf, defined, held, Closes, OrderFitsAt, returnTo, bufferTo, conditionsTo, startConditions, Refuses}
-use Rattle.promise.specs.Runs.{PictureOf, Handed, AllHanded, Comes, NothingAbove, NoEventAbove, Lost, Shows, shownBy, consumerBy, trackedBy}
+use Rattle.abstract_calls.specs.Definition.{callsOf, defined, held, Closes, OrderFitsAt, returnTo, bufferTo, conditionsTo, startConditions, Refuses, followed, deskReturnTo, deskBufferTo, deskConditionsTo}
+use Rattle.promise.specs.Runs.{PictureOf, Handed, AllHanded, Comes, NothingAbove, NoEventAbove, Lost, Shows}
 
 -- the lengths of the images, which the header names
 abbrev pub serviceLength : ℕ
@@ -67,33 +67,33 @@ startRefused image a = firstRefused (startConditions image (configOf a) (a .port
 abbrev pub registers : Arguments → Config → Registration
 registers a c = record { config = c; ports = a .ports; chargers = a .chargers }
 
--- Demand 3, of the run of these calls and of takes from a fresh follower, whose image is kept at x: in any list of them each take is handed a copy of what
--- the run wrote, or bytes that are turned back.
+-- Demand 3, of the run of these calls and of the desk's calls from a fresh follower on, whose image is kept at x: in any list of them each packet handed over
+-- (`packetsOf`) is a copy of what the run wrote, or bytes that are turned back.
 pub record Link (f : Functions) (image : List ℕ) (g : Registration) (calls : List ByteCall) (x : List ℕ) : Type 0 where
   -- The follower says lost, or shows an n with exactly the consumer, both unconstrained figures and tracked ports held when event n closed (0: the start).
   pub never-wrong :
-      (l : List (List ℕ)) → AllHanded f image g calls l →
+      (l : List DeskCall) → AllHanded f image g calls (packetsOf l) →
       Lost f (desk f x l) ⊎ ((n : ℕ) × (n ≤ defined g calls .number) × Shows f (desk f x l) n (held g calls n))
   -- If it shows n and then each event packet n + 1 to n + k comes, in any order, k ≤ 8, all without error, and nothing above n + k anywhere among the takes,
   -- it shows n + k.
   pub follows :
-      (before later : List (List ℕ)) (n k : ℕ) → AllHanded f image g calls (before ++ later) → Shows f (desk f x before) n (held g calls n) → k ≤ 8 →
-      Comes f image g calls n k later → NothingAbove f image g calls (n + k) (before ++ later) →
+      (before later : List DeskCall) (n k : ℕ) → AllHanded f image g calls (packetsOf (before ++ later)) → Shows f (desk f x before) n (held g calls n) → k ≤ 8 →
+      Comes f image g calls n k (packetsOf later) → NothingAbove f image g calls (n + k) (packetsOf (before ++ later)) →
       Shows f (desk f x (before ++ later)) (n + k) (held g calls (n + k))
   -- Lost, it shows a picture exactly when that is numbered no lower than every event packet met before.
   pub recovers :
-      (before : List (List ℕ)) (n : ℕ) (y : List ℕ) → AllHanded f image g calls before → PictureOf f image g calls n y → Lost f (desk f x before) →
-      Shows f (desk f x (before ++ (y ∷ []))) n (held g calls n) ↔ NoEventAbove f image g calls n before
+      (before : List DeskCall) (n : ℕ) (y : List ℕ) → AllHanded f image g calls (packetsOf before) → PictureOf f image g calls n y → Lost f (desk f x before) →
+      Shows f (desk f x (before ++ (takePacket y ∷ []))) n (held g calls n) ↔ NoEventAbove f image g calls n (packetsOf before)
   -- Whatever else is handed to it, a picture that is too low too, it stays lost.
   pub stays-lost :
-      (before : List (List ℕ)) (y : List ℕ) → AllHanded f image g calls before → Handed f image g calls y → Lost f (desk f x before) →
-      ((n : ℕ) → PictureOf f image g calls n y → NoEventAbove f image g calls n before → ⊥) →
-      Lost f (desk f x (before ++ (y ∷ [])))
+      (before : List DeskCall) (y : List ℕ) → AllHanded f image g calls (packetsOf before) → Handed f image g calls y → Lost f (desk f x before) →
+      ((n : ℕ) → PictureOf f image g calls n y → NoEventAbove f image g calls n (packetsOf before) → ⊥) →
+      Lost f (desk f x (before ++ (takePacket y ∷ [])))
 
 -- Demands 1 and 2, of what a start left, g registered: every list of calls after it, refused ones included. That an event ends in time is of the
 -- definition, which these calls follow (Meaning, below).
 pub record Serves (f : Functions) (image : List ℕ) (g : Registration) : Type 0 where
-  -- A call is refused only on a condition, by the lowest number that applies,
+  -- A call is refused only on a condition, by the first number that applies,
   pub refuses : (l : List ByteCall) (c : ByteCall) → CallsBytes l → Refuses (conditionsTo (defined g l) c) (returned f (images f image l) c)
   -- and then (low byte 0) leaves state and lent buffer unchanged.
   pub turned-back :
@@ -119,28 +119,31 @@ pub record Serves (f : Functions) (image : List ℕ) (g : Registration) : Type 0
 
 -- A start, whatever its arguments.
 pub record Starts (f : Functions) (image : List ℕ) (a : Arguments) : Type 0 where
-  -- It is refused only on a condition, by the lowest number that applies, else done;
-  pub lowest : Lowest (startConditions image (configOf a) (a .ports) (a .chargers)) (startRefused image a)
+  -- It is refused only on a condition, by the first number that applies, else done;
+  pub first : First (startConditions image (configOf a) (a .ports) (a .chargers)) (startRefused image a)
   pub number : f .start image a .number ≡ doneOr (startRefused image a)
   -- refused, it leaves the bytes unchanged;
   pub turned-back : (startRefused image a ≡ 0 → ⊥) → f .start image a .bytes ≡ image
   -- done, the demands hold of what it left, whatever the bytes were before.
   pub serves : startRefused image a ≡ 0 → (c : Config) → configOf a ≡ OptionConfig.Some c → Serves f (f .start image a .bytes) (registers a c)
 
--- The desk, whatever bytes have been taken and are: takes and readers are as document 01's follower has it.
+-- The desk, whatever bytes have been taken and are: every list of its calls, refused ones included, is as document 01's follower has it.
 pub record Follows (f : Functions) (x : List ℕ) : Type 0 where
   -- A fresh follower is lost.
   pub fresh-lost : Lost f (desk f x [])
-  -- A packet is refused by the first of 30 to 33 from the left, and then the follower is unchanged.
-  pub take : (l : List (List ℕ)) (y : List ℕ) → EachBytes l → f .take (desk f x l) y .number ≡ takeTo (readPacket y)
-  pub turned-back : (l : List (List ℕ)) (y : List ℕ) (n : ℕ) → EachBytes l → readPacket y ≡ ReadPacket.Refused n → f .take (desk f x l) y .bytes ≡ desk f x l
-  -- The readers tell lost, or the number, level or waiting, both figures, the consumer and the tracked ports of the follower after these takes.
-  pub shown : (l : List (List ℕ)) → EachBytes l → f .shown (desk f x l) ≡ shownBy (paperAfter l)
-  pub consumer : (l : List (List ℕ)) → EachBytes l → f .consumer (desk f x l) ≡ consumerBy (paperAfter l)
-  pub tracked : (l : List (List ℕ)) → EachBytes l → f .tracked (desk f x l) ≡ trackedBy (paperAfter l)
+  -- A call is refused only on a condition, by the first number that applies (a packet by the first of 30 to 33 from the left),
+  pub refuses : (l : List DeskCall) (c : DeskCall) → DeskBytes l → Refuses (deskConditionsTo (followed l) c) (deskReturned f (desk f x l) c)
+  -- and then (low byte 0) leaves follower and lent buffer unchanged.
+  pub turned-back :
+      (l : List DeskCall) (c : DeskCall) → DeskBytes l → deskReturned f (desk f x l) c % 256 ≡ 0 →
+      (deskAfter f (desk f x l) c ≡ desk f x l) × (deskBufferAfter f (desk f x l) c ≡ deskBufferIn c)
+  -- The readers tell lost, or the number, level or waiting, both figures, the consumer and the tracked ports of the follower after these calls,
+  pub returns : (l : List DeskCall) (c : DeskCall) → DeskBytes l → deskReturned f (desk f x l) c ≡ deskReturnTo (followed l) c
+  -- and what is written is of it.
+  pub buffers : (l : List DeskCall) (c : DeskCall) → DeskBytes l → deskBufferAfter f (desk f x l) c ≡ deskBufferTo (followed l) c
   -- An image stays so many bytes.
-  pub size : (l : List (List ℕ)) → EachBytes l → length (desk f x l) ≡ followerLength
-  pub bytes : (l : List (List ℕ)) → EachBytes l → AllBytes (desk f x l)
+  pub size : (l : List DeskCall) → DeskBytes l → length (desk f x l) ≡ followerLength
+  pub bytes : (l : List DeskCall) → DeskBytes l → AllBytes (desk f x l)
 
 -- A follower's start, whatever bytes it is lent.
 pub record FollowerStarts (f : Functions) (x : List ℕ) : Type 0 where
@@ -154,11 +157,9 @@ pub record OtherLength (f : Functions) : Type 0 where
   pub service :
       (b : List ℕ) (c : ByteCall) → eqb (length b) serviceLength ≡ false →
       (returned f b c ≡ refusedNumber 21) × (imageAfter f b c ≡ b) × (bufferAfter f b c ≡ bufferIn c)
-  pub take :
-      (b y : List ℕ) → eqb (length b) followerLength ≡ false → (f .take b y .number ≡ refusedNumber 21) × (f .take b y .bytes ≡ b)
-  pub readers :
-      (b : List ℕ) → eqb (length b) followerLength ≡ false →
-      (f .shown b ≡ refusedNumber 21) × (f .consumer b ≡ refusedNumber 21) × (f .tracked b ≡ refusedNumber 21)
+  pub desk :
+      (b : List ℕ) (c : DeskCall) → eqb (length b) followerLength ≡ false →
+      (deskReturned f b c ≡ refusedNumber 21) × (deskAfter f b c ≡ b) × (deskBufferAfter f b c ≡ deskBufferIn c)
 
 pub record Promise (f : Functions) : Type 0 where
   pub start : (image : List ℕ) (a : Arguments) → Starts f image a
@@ -168,11 +169,11 @@ pub record Promise (f : Functions) : Type 0 where
 -- What the definition's words come to, of any g that a start accepts; no function is named here.
 pub record Meaning (g : Registration) : Type 0 where
   -- Every accepted event closes after at most 3 + 4 × chargers device orders,
-  pub bound : (l : List ByteCall) → CallsBytes l → length (ordersOf (started g) [] (callsOf g l)) ≤ 3 + 4 * g .chargers
+  pub bound : (l : List ByteCall) → CallsBytes l → length (ordersOf (started g) [] (callsOf (started g) l)) ≤ 3 + 4 * g .chargers
   -- whatever the devices answer.
   pub closes : (l : List ByteCall) → CallsBytes l → Closes (g .chargers) (defined g l .stand)
   -- The packet, and the close of a PSU event that a call returns, carry the number of orders given, equal to the length of the definition's list.
-  pub counted : (l : List ByteCall) → Counted (defined g l .stand) (defined g l .orders) (ordersOf (started g) [] (callsOf g l))
+  pub counted : (l : List ByteCall) → Counted (defined g l .stand) (defined g l .orders) (ordersOf (started g) [] (callsOf (started g) l))
   -- The notices of the packet are the definition's, whole, 0 to 4.
   pub notices :
       (l : List ByteCall) (e : EventPacket) → CallsBytes l → packetTo (defined g l) ≡ SentPacket.Packet e →

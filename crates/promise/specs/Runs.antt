@@ -12,9 +12,9 @@ use Rattle.display.specs.declared.State.{State}
 use Rattle.abstract_policy.specs.declared.state.Registration.{Registration}
 use Rattle.wire.specs.Read.{readPacket}
 use Rattle.wire.specs.declared.packet.ReadPacket.{ReadPacket}
-use Rattle.abstract_desk.specs.Follower as paper
 use Rattle.abstract_calls.specs.Numbers.{lostNumber, shownNumber, consumerNumber, trackedNumber}
-use Rattle.abstract_calls.specs.Calls.{ByteCall, writePacket, writePicture, images, Writes}
+use Rattle.abstract_calls.specs.ServiceCall.{ByteCall, writePacket, writePicture}
+use Rattle.abstract_calls.specs.Calls.{images, Writes}
 use Rattle.abstract_calls.specs.Functions.{Functions}
 use Rattle.abstract_calls.specs.Definition.{defined}
 
@@ -81,17 +81,3 @@ pub record Shows (f : Functions) (b : List ℕ) (n : ℕ) (d : Display) : Type 0
   pub number : f .shown b / 4294967296 ≡ n
   pub consumer : f .consumer b ≡ consumerNumber (d .consumer)
   pub tracked : f .tracked b ≡ trackedNumber (d .providers)
-
--- what the three readers return of document 01's follower
-
-abbrev pub shownBy : paper.Follower → ℕ
-shownBy (paper.lost floor) = lostNumber
-shownBy (paper.showing n d l) = shownNumber (paper.state (paper.showing n d l)) n d
-
-abbrev pub consumerBy : paper.Follower → ℕ
-consumerBy (paper.lost floor) = consumerNumber OptionAvailableConsumer.None
-consumerBy (paper.showing n d l) = consumerNumber (d .consumer)
-
-abbrev pub trackedBy : paper.Follower → ℕ
-trackedBy (paper.lost floor) = trackedNumber none
-trackedBy (paper.showing n d l) = trackedNumber (d .providers)

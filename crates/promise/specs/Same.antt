@@ -6,10 +6,12 @@ use mathlib.Core.Path.{_≡_}
 use mathlib.Core.Bool.{false}
 use lib.Dec.{eqb}
 use lib.ListN.{length}
-use Rattle.records.specs.Row.{AllBytes}
+use Rattle.abstract_desk.specs.Takes.{EachBytes}
 use Rattle.abstract_calls.specs.Called.{Called}
 use Rattle.abstract_calls.specs.Numbers.{doneNumber}
-use Rattle.abstract_calls.specs.Calls.{ByteCall, CallBytes, imageAfter, returned, bufferAfter}
+use Rattle.abstract_calls.specs.ServiceCall.{ByteCall}
+use Rattle.abstract_calls.specs.Calls.{CallBytes, imageAfter, returned, bufferAfter, deskAfter, deskReturned, deskBufferAfter}
+use Rattle.abstract_calls.specs.DeskCall.{DeskCall, deskCall}
 use Rattle.abstract_calls.specs.Functions.{Functions, Arguments}
 use Rattle.promise.specs.Promise.{serviceLength, followerLength}
 
@@ -17,8 +19,7 @@ pub data Call : Type 0 where
   start : Arguments → Call
   call : ByteCall → Call
   follower-start : Call
-  take : List ℕ → Call
-  shown consumer tracked : Call
+  desk : DeskCall → Call
 
 -- records and packets are bytes
 abbrev pub OfBytes : List Call → Type 0
@@ -26,10 +27,7 @@ OfBytes [] = Unit {0}
 OfBytes (start a ∷ l) = OfBytes l
 OfBytes (call c ∷ l) = CallBytes c × OfBytes l
 OfBytes (follower-start ∷ l) = OfBytes l
-OfBytes (take y ∷ l) = AllBytes y × OfBytes l
-OfBytes (shown ∷ l) = OfBytes l
-OfBytes (consumer ∷ l) = OfBytes l
-OfBytes (tracked ∷ l) = OfBytes l
+OfBytes (desk c ∷ l) = EachBytes (deskCall c .packets) × OfBytes l
 
 -- the number, and the lent buffer; the bytes of an image are a program's own
 abbrev pub seen : ℕ → List ℕ → Called
@@ -41,10 +39,7 @@ trace f b x [] = []
 trace f b x (start a ∷ l) = seen (f .start b a .number) [] ∷ trace f (f .start b a .bytes) x l
 trace f b x (call c ∷ l) = seen (returned f b c) (bufferAfter f b c) ∷ trace f (imageAfter f b c) x l
 trace f b x (follower-start ∷ l) = seen (f .follower-start x .number) [] ∷ trace f b (f .follower-start x .bytes) l
-trace f b x (take y ∷ l) = seen (f .take x y .number) [] ∷ trace f b (f .take x y .bytes) l
-trace f b x (shown ∷ l) = seen (f .shown x) [] ∷ trace f b x l
-trace f b x (consumer ∷ l) = seen (f .consumer x) [] ∷ trace f b x l
-trace f b x (tracked ∷ l) = seen (f .tracked x) [] ∷ trace f b x l
+trace f b x (desk c ∷ l) = seen (deskReturned f x c) (deskBufferAfter f x c) ∷ trace f b (deskAfter f x c) l
 
 -- nobody can tell them apart who keeps to images that a start left: the same starts are done, after them every trace is seen alike, and bytes of another
 -- length are refused alike
@@ -60,6 +55,5 @@ pub record Same (f g : Functions) : Type 0 where
       (b : List ℕ) (c : ByteCall) → eqb (length b) serviceLength ≡ false →
       (returned f b c ≡ returned g b c) × ((imageAfter f b c ≡ imageAfter g b c) × (bufferAfter f b c ≡ bufferAfter g b c))
   pub follower-other :
-      (b y : List ℕ) → eqb (length b) followerLength ≡ false →
-      (f .take b y .number ≡ g .take b y .number) × ((f .take b y .bytes ≡ g .take b y .bytes)
-      × ((f .shown b ≡ g .shown b) × ((f .consumer b ≡ g .consumer b) × (f .tracked b ≡ g .tracked b))))
+      (b : List ℕ) (c : DeskCall) → eqb (length b) followerLength ≡ false →
+      (deskReturned f b c ≡ deskReturned g b c) × ((deskAfter f b c ≡ deskAfter g b c) × (deskBufferAfter f b c ≡ deskBufferAfter g b c))

@@ -13,82 +13,39 @@ use Rattle.abstract_calls.specs.Functions.{Functions}
 use Rattle.exported.specs.Ours.{functions}
 use Rattle.promise.specs.Promise.{Promise}
 
--- another function for an opening, for an answer, for a packet, for a take, or other readers
+-- ours, but for these
+
+abbrev changed :
+    (List ℕ → List ℕ → List ℕ → ℕ → ℕ → ℕ → Called) → (List ℕ → List ℕ → List ℕ → ℕ → Called) → (List ℕ → List ℕ → Called) → (List ℕ → List ℕ → Called) →
+    (List ℕ → ℕ) → (List ℕ → ℕ) → (List ℕ → ℕ) → Functions
+changed open-event answer write-packet take shown consumer tracked = record {
+  start = functions .start;
+  open-event = open-event;
+  answer = answer;
+  order = functions .order;
+  write-packet = write-packet;
+  write-picture = functions .write-picture;
+  follower-start = functions .follower-start;
+  take = take;
+  shown = shown;
+  consumer = consumer;
+  tracked = tracked;
+}
 
 abbrev withOpen : (List ℕ → List ℕ → List ℕ → ℕ → ℕ → ℕ → Called) → Functions
-withOpen o = record {
-  start = functions .start;
-  open-event = o;
-  answer = functions .answer;
-  order = functions .order;
-  write-packet = functions .write-packet;
-  write-picture = functions .write-picture;
-  follower-start = functions .follower-start;
-  take = functions .take;
-  shown = functions .shown;
-  consumer = functions .consumer;
-  tracked = functions .tracked;
-}
+withOpen o = changed o (functions .answer) (functions .write-packet) (functions .take) (functions .shown) (functions .consumer) (functions .tracked)
 
 abbrev withAnswer : (List ℕ → List ℕ → List ℕ → ℕ → Called) → Functions
-withAnswer o = record {
-  start = functions .start;
-  open-event = functions .open-event;
-  answer = o;
-  order = functions .order;
-  write-packet = functions .write-packet;
-  write-picture = functions .write-picture;
-  follower-start = functions .follower-start;
-  take = functions .take;
-  shown = functions .shown;
-  consumer = functions .consumer;
-  tracked = functions .tracked;
-}
+withAnswer o = changed (functions .open-event) o (functions .write-packet) (functions .take) (functions .shown) (functions .consumer) (functions .tracked)
 
 abbrev withPacket : (List ℕ → List ℕ → Called) → Functions
-withPacket o = record {
-  start = functions .start;
-  open-event = functions .open-event;
-  answer = functions .answer;
-  order = functions .order;
-  write-packet = o;
-  write-picture = functions .write-picture;
-  follower-start = functions .follower-start;
-  take = functions .take;
-  shown = functions .shown;
-  consumer = functions .consumer;
-  tracked = functions .tracked;
-}
+withPacket o = changed (functions .open-event) (functions .answer) o (functions .take) (functions .shown) (functions .consumer) (functions .tracked)
 
 abbrev withTake : (List ℕ → List ℕ → Called) → Functions
-withTake o = record {
-  start = functions .start;
-  open-event = functions .open-event;
-  answer = functions .answer;
-  order = functions .order;
-  write-packet = functions .write-packet;
-  write-picture = functions .write-picture;
-  follower-start = functions .follower-start;
-  take = o;
-  shown = functions .shown;
-  consumer = functions .consumer;
-  tracked = functions .tracked;
-}
+withTake o = changed (functions .open-event) (functions .answer) (functions .write-packet) o (functions .shown) (functions .consumer) (functions .tracked)
 
 abbrev withReaders : ℕ → ℕ → ℕ → Functions
-withReaders s c t = record {
-  start = functions .start;
-  open-event = functions .open-event;
-  answer = functions .answer;
-  order = functions .order;
-  write-packet = functions .write-packet;
-  write-picture = functions .write-picture;
-  follower-start = functions .follower-start;
-  take = functions .take;
-  shown = λ b. s;
-  consumer = λ b. c;
-  tracked = λ b. t;
-}
+withReaders s c t = changed (functions .open-event) (functions .answer) (functions .write-packet) (functions .take) (λ b. s) (λ b. c) (λ b. t)
 
 -- "A follower that says lost from the first packet"
 abbrev pub alwaysLost : Functions

@@ -28,8 +28,7 @@ use Rattle.send.specs.Send.{noticesOf, answerByteOf}
 use Rattle.interaction.specs.Machine.{standsAt}
 use Rattle.interaction.specs.Served.{serviceAfter, numbered, Stands, Opens, Registered, eventAt}
 use Rattle.interaction.proofs.Serves.{follows, counted-bound}
-use Rattle.run.specs.Run.{afterCall, services}
-use Rattle.run.specs.Sized.{CallsFit}
+use Rattle.run.specs.Run.{afterCall, services, CallsFit}
 use Rattle.run.specs.Demands.{Bounded, Packs}
 use Rattle.run.proofs.Matches.{Last, Runs, goes}
 use Rattle.run.proofs.Writer.{listed-same}

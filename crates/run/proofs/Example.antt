@@ -42,8 +42,8 @@ use Rattle.follower.specs.declared.Shown.{Shown}
 use Rattle.link.specs.Source.{Source, numberIn}
 use Rattle.link.specs.Takes.{takesBytes, Met, copy, AllCarried, FollowerShows}
 use Rattle.link.proofs.Lists.{one-packet}
-use Rattle.run.specs.Run.{HasSent, services}
-use Rattle.run.specs.Sized.{RecordsFit, CallsFit}
+use Rattle.run.specs.Run.{HasSent, services, CallsFit}
+use Rattle.run.specs.Sized.{RecordsFit}
 use Rattle.run.specs.Demands.{Demands}
 use Rattle.run.proofs.Linked.{source, run-demand-3, after-start}
 

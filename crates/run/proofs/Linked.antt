@@ -16,8 +16,8 @@ use Rattle.service.specs.declared.Started.{Started}
 use Rattle.link.specs.Link.{Demand3}
 use Rattle.link.specs.Source.{Source}
 use Rattle.link.proofs.Demand.{demand-3}
-use Rattle.run.specs.Run.{HasSent, services}
-use Rattle.run.specs.Sized.{CallsFit, StartFits}
+use Rattle.run.specs.Run.{HasSent, services, CallsFit}
+use Rattle.run.specs.Sized.{StartFits}
 use Rattle.run.specs.Demands.{Bounded, Equal, OnLink, Demands}
 use Rattle.run.proofs.Matches.{Runs, firstLast}
 use Rattle.run.proofs.Bounds.{run-bounded}

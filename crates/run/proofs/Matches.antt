@@ -41,9 +41,9 @@ use Rattle.interaction.specs.Machine.{heldOf, listed, rest, standsAt, standsFor
 use Rattle.interaction.proofs.Follows.{opened, leaving-answered, switching-answered, connecting-answered, providing-answered}
 use Rattle.interaction.proofs.Kept.{FitsTurn, opened-fits, answered-fits}
 use Rattle.interaction.proofs.Serves.{service, serviceAt, closed-answer, open-answer, moved-to, last-not-refused, below}
-use Rattle.run.specs.Run.{afterCall}
+use Rattle.run.specs.Run.{afterCall, CallFits}
 use Rattle.run.specs.Demands.{standOf}
-use Rattle.run.specs.Sized.{RecordsFit, CallFits}
+use Rattle.run.specs.Sized.{RecordsFit}
 use Rattle.run.proofs.Sized.{StateFits, HeldFits, Sized, event-sized}
 
 -- what the event closed last has left

@@ -47,8 +47,7 @@ use Rattle.send.specs.Send.{pushProvider, pushDisconnected, pushConnected, push
 use Rattle.interaction.specs.Machine.{ofProvider, ofDisconnected, ofConnected, ofUnconstrained, heldOf, listed, rest, standsAt, standsFor}
 use Rattle.interaction.proofs.Follows.{opened, leaving-answered, switching-answered, connecting-answered, providing-answered}
 use Rattle.interaction.proofs.Serves.{service, moved-brings}
-use Rattle.run.specs.Run.{afterCall, services}
-use Rattle.run.specs.Sized.{CallsFit}
+use Rattle.run.specs.Run.{afterCall, services, CallsFit}
 use Rattle.run.specs.Demands.{standOf, Equal}
 use Rattle.run.proofs.Matches.{Last, lastOf, policyOf, open-is, Closed, StateAt, Runs, goes}
 

@@ -39,8 +39,7 @@ use Rattle.interaction.specs.Machine.{listed}
 use Rattle.interaction.proofs.Serves.{service}
 use Rattle.wire.specs.WellFormed.{noticesFit, consumerFits, eventFits, pictureFits, wellFormed}
 use Rattle.link.specs.Source.{numberIn}
-use Rattle.run.specs.Run.{afterCall, Sends, HasSent}
-use Rattle.run.specs.Sized.{CallsFit}
+use Rattle.run.specs.Run.{afterCall, Sends, HasSent, CallsFit}
 use Rattle.run.proofs.Sized.{both}
 use Rattle.run.proofs.Matches.{Last, policyOf, Closed, StateAt, Runs, Moved, stays, asks, closes, goes}
 

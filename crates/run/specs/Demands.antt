@@ -23,8 +23,7 @@ use Rattle.interaction.specs.Machine.{standsAt}
 use Rattle.interaction.specs.Served.{serviceAfter, numbered, Stands, Opens, eventAt}
 use Rattle.link.specs.Link.{Demand3}
 use Rattle.link.specs.Source.{Source}
-use Rattle.run.specs.Run.{HasSent, services}
-use Rattle.run.specs.Sized.{CallsFit}
+use Rattle.run.specs.Run.{HasSent, services, CallsFit}
 
 -- demand 1: each event closes after at most 3 + 4 × chargers orders
 

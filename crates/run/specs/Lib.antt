@@ -1,3 +1,3 @@
-pub mod Run
 pub mod Sized
+pub mod Run
 pub mod Demands

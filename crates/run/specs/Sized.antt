@@ -1,8 +1,6 @@
--- What the types of records, of a configuration and of a start's figures can hold: the demands are of calls with such records, and a start
--- accepts no other configuration.
+-- What the types of records and of a start's figures can hold: the demands are of calls with such records, and a start accepts no other configuration.
 use Prim.Native.Nat.{ℕ, _<_, _≤_}
 use mathlib.Core.Bool.{true}
-use mathlib.Core.List.{List, [], _∷_}
 use mathlib.Core.Path.{_≡_}
 use Rattle.power_policy_interface.specs.Capability.{capabilityFits}
 use Rattle.power_policy_interface.specs.declared.capability.OptionConsumerPowerCapability.{OptionConsumerPowerCapability}
@@ -11,7 +9,6 @@ use Rattle.power_policy_interface.specs.declared.psu.State.{State}
 use Rattle.power_policy_service.specs.Rows.{psuAt}
 use Rattle.power_policy_service.specs.Config.{ConfigFits}
 use Rattle.power_policy_service.specs.declared.config.Config.{Config}
-use Rattle.abstract_policy.specs.Policy.{Call, openEvent, giveAnswer, writePacket, writePicture}
 use Rattle.abstract_policy.specs.declared.state.Records.{Records}
 use Rattle.service.specs.Service.{freshService}
 use Rattle.service.specs.declared.Service.{Service}
@@ -30,16 +27,6 @@ PsuFits s = OfferFits (s .«consumer_capability») × RequestFits (s .«requeste
 
 abbrev pub RecordsFit : Records → Type 0
 RecordsFit r = (p : ℕ) → p < 16 → PsuFits (psuAt (r .psus) p)
-
-abbrev pub CallFits : Call → Type 0
-CallFits (openEvent kind device detail r) = RecordsFit r
-CallFits (giveAnswer a r) = RecordsFit r
-CallFits writePacket = Unit {0}
-CallFits writePicture = Unit {0}
-
-abbrev pub CallsFit : List Call → Type 0
-CallsFit [] = Unit {0}
-CallsFit (c ∷ l) = CallFits c × CallsFit l
 
 -- what a start has accepted: the service is fresh, and all figures are within their types
 pub record StartFits (ports chargers : ℕ) (s : Service) : Type 0 where

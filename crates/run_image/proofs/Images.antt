@@ -11,11 +11,12 @@ use Rattle.power_policy_interface.specs.declared.psu.Result.{Result}
 use Rattle.abstract_policy.specs.Refusals.{firstRefused}
 use Rattle.abstract_policy.specs.Given.{eventOf, resultOf}
 use Rattle.abstract_policy.specs.Policy as policy
-use Rattle.abstract_policy.specs.Policy.{Call}
+use Rattle.abstract_policy.specs.Policy.{Call, Policy, policies}
 use Rattle.abstract_policy.specs.declared.state.Records.{Records}
 use Rattle.abstract_policy.specs.declared.state.Registration.{Registration}
 use Rattle.abstract_policy.specs.declared.order.OptionOrder.{OptionOrder}
 use Rattle.abstract_policy.specs.declared.outcome.Step.{Step}
+use Rattle.abstract_policy.proofs.Chosen.{policies-registration}
 use Rattle.event.specs.Phase.{orderOf}
 use Rattle.event.specs.declared.phase.Turn.{Turn}
 use Rattle.process.specs.Process.{answeredOf, processOf}
@@ -23,13 +24,13 @@ use Rattle.service.specs.Refusals.{openRefusals, answerRefusals}
 use Rattle.service.specs.Service.{stepped, refused, movedBy, clearedOf, openedOf, openOf, orderIn, answeredBy, answerOf}
 use Rattle.service.specs.declared.Service.{Service}
 use Rattle.service.specs.declared.Stepped.{Stepped}
-use Rattle.run.specs.Run.{afterCall, services}
-use Rattle.run.specs.Sized.{CallsFit}
+use Rattle.run.specs.Run.{afterCall, services, CallsFit}
 use Rattle.run.proofs.Rows.{row-fits}
 use Rattle.abstract_calls.specs.Called.{refusedCall}
 use Rattle.abstract_calls.specs.Lent.{rowsIn}
-use Rattle.abstract_calls.specs.Calls.{ByteCall, openEvent, giveAnswer, readOrder, writePacket, writePicture, imageAfter, images, CallBytes, CallsBytes}
-use Rattle.abstract_calls.specs.Definition.{onRows, callOf, callsOf}
+use Rattle.abstract_calls.specs.ServiceCall.{ByteCall, openEvent, giveAnswer, readOrder, writePacket, writePicture, onRows}
+use Rattle.abstract_calls.specs.Calls.{imageAfter, images, CallBytes, CallsBytes}
+use Rattle.abstract_calls.specs.Definition.{callOf, callsOf}
 use Rattle.abstract_calls.specs.declared.Rows.{Rows}
 use Rattle.service_image.specs.Image.{serviceBytes, serviceFrom}
 use Rattle.service_image.specs.declared.ReadService.{ReadService}
@@ -100,24 +101,24 @@ services-on (c ∷ l) m s = services-on l m (afterCall s c)
 
 -- records that are read from bytes have their figures within their types
 
-call-fits : (g : Registration) (c : ByteCall) → CallBytes c → CallsFit (callOf g c)
-call-fits g (openEvent psus chargers kind device detail) b = go (rowsIn g psus chargers .ok)
+call-fits : (p : Policy) (c : ByteCall) → CallBytes c → CallsFit (callOf p c)
+call-fits p (openEvent psus chargers kind device detail) b = go (rowsIn (p .registration) psus chargers .ok)
   where
-    go : (t : Bool) → CallsFit (cond t (policy.openEvent kind device detail (rowsIn g psus chargers .records) ∷ []) [])
-    go true = (row-fits (g .ports) psus (rowsIn g psus chargers .records .chargers) b, tt)
+    go : (t : Bool) → CallsFit (cond t (policy.openEvent kind device detail (rowsIn (p .registration) psus chargers .records) ∷ []) [])
+    go true = (row-fits (p .registration .ports) psus (rowsIn (p .registration) psus chargers .records .chargers) b, tt)
     go false = tt
-call-fits g (giveAnswer psus chargers a) b = go (rowsIn g psus chargers .ok)
+call-fits p (giveAnswer psus chargers a) b = go (rowsIn (p .registration) psus chargers .ok)
   where
-    go : (t : Bool) → CallsFit (cond t (policy.giveAnswer a (rowsIn g psus chargers .records) ∷ []) [])
-    go true = (row-fits (g .ports) psus (rowsIn g psus chargers .records .chargers) b, tt)
+    go : (t : Bool) → CallsFit (cond t (policy.giveAnswer a (rowsIn (p .registration) psus chargers .records) ∷ []) [])
+    go true = (row-fits (p .registration .ports) psus (rowsIn (p .registration) psus chargers .records .chargers) b, tt)
     go false = tt
-call-fits g readOrder b = tt
-call-fits g (writePacket buffer) b = go (ltb (length buffer) 64)
+call-fits p readOrder b = tt
+call-fits p (writePacket buffer) b = go (ltb (length buffer) 64)
   where
     go : (t : Bool) → CallsFit (cond t [] (policy.writePacket ∷ []))
     go true = tt
     go false = (tt, tt)
-call-fits g (writePicture buffer) b = go (ltb (length buffer) 64)
+call-fits p (writePicture buffer) b = go (ltb (length buffer) 64)
   where
     go : (t : Bool) → CallsFit (cond t [] (policy.writePicture ∷ []))
     go true = tt
@@ -127,9 +128,10 @@ fits-on : (l m : List Call) → CallsFit l → CallsFit m → CallsFit (l ++ m)
 fits-on [] m x y = y
 fits-on (c ∷ l) m x y = (x .0, fits-on l m (x .1) y)
 
-pub calls-fit : (g : Registration) (l : List ByteCall) → CallsBytes l → CallsFit (callsOf g l)
-calls-fit g [] b = tt
-calls-fit g (c ∷ l) b = fits-on (callOf g c) (callsOf g l) (call-fits g c (b .0)) (calls-fit g l (b .1))
+pub calls-fit : (p : Policy) (l : List ByteCall) → CallsBytes l → CallsFit (callsOf p l)
+calls-fit p [] b = tt
+calls-fit p (c ∷ l) b =
+    fits-on (callOf p c) (callsOf (policies p (callOf p c)) l) (call-fits p c (b .0)) (calls-fit (policies p (callOf p c)) l (b .1))
 
 -- one call on an image
 
@@ -152,37 +154,42 @@ rows-bytes s r f c k e = go (r .ok)
     go true = stepped-bytes s (f (r .records) .step) (f (r .records) .service) (k (r .records) .back) ∙ ap serviceBytes (e (r .records))
     go false = refl
 
-pub image-after : (s : Service) (c : ByteCall) → Good s → imageAfter functions (serviceBytes s) c ≡ serviceBytes (services s (callOf (s .registration) c))
-image-after s (openEvent psus chargers kind device detail) h =
+-- what is registered is the definition's
+pub image-after : (s : Service) (p : Policy) (c : ByteCall) → s .registration ≡ p .registration → Good s →
+    imageAfter functions (serviceBytes s) c ≡ serviceBytes (services s (callOf p c))
+image-after s p (openEvent psus chargers kind device detail) e h =
     ap (λ (x : ReadService). onService (serviceBytes s) x psus chargers (λ t r. openOf t kind device detail r) .bytes) (image-read s h)
-    ∙ rows-bytes s (rowsIn (s .registration) psus chargers) (λ r. openOf s kind device detail r) (λ r. policy.openEvent kind device detail r)
+    ∙ (rows-bytes s (rowsIn (s .registration) psus chargers) (λ r. openOf s kind device detail r) (λ r. policy.openEvent kind device detail r)
     (λ r. open-keeps s kind device detail r) (λ r. refl)
-image-after s (giveAnswer psus chargers a) h =
+    ∙ ap (λ (g : Registration). serviceBytes (services s (onRows (rowsIn g psus chargers) (λ r. policy.openEvent kind device detail r)))) e)
+image-after s p (giveAnswer psus chargers a) e h =
     ap (λ (x : ReadService). onService (serviceBytes s) x psus chargers (λ t r. answerOf t a r) .bytes) (image-read s h)
-    ∙ rows-bytes s (rowsIn (s .registration) psus chargers) (λ r. answerOf s a r) (λ r. policy.giveAnswer a r) (λ r. answer-keeps s a r) (λ r. refl)
-image-after s readOrder h = refl
-image-after s (writePacket buffer) h = go (ltb (length buffer) 64)
+    ∙ (rows-bytes s (rowsIn (s .registration) psus chargers) (λ r. answerOf s a r) (λ r. policy.giveAnswer a r) (λ r. answer-keeps s a r) (λ r. refl)
+    ∙ ap (λ (g : Registration). serviceBytes (services s (onRows (rowsIn g psus chargers) (λ r. policy.giveAnswer a r)))) e)
+image-after s p readOrder e h = refl
+image-after s p (writePacket buffer) e h = go (ltb (length buffer) 64)
   where
     go : (t : Bool) → serviceBytes s ≡ serviceBytes (services s (cond t [] (policy.writePacket ∷ [])))
     go true = refl
     go false = refl
-image-after s (writePicture buffer) h = go (ltb (length buffer) 64)
+image-after s p (writePicture buffer) e h = go (ltb (length buffer) 64)
   where
     go : (t : Bool) → serviceBytes s ≡ serviceBytes (services s (cond t [] (policy.writePicture ∷ [])))
     go true = refl
     go false = refl
 
-pub call-good : (s : Service) (c : ByteCall) → CallBytes c → Good s → Good (services s (callOf (s .registration) c))
-call-good s c b h = services-good (callOf (s .registration) c) s (call-fits (s .registration) c b) h
+pub call-good : (s : Service) (p : Policy) (c : ByteCall) → CallBytes c → Good s → Good (services s (callOf p c))
+call-good s p c b h = services-good (callOf p c) s (call-fits p c b) h
 
 -- a list of them
 
-pub images-are : (l : List ByteCall) (s : Service) → CallsBytes l → Good s → images functions (serviceBytes s) l ≡ serviceBytes (services s (callsOf (s .registration) l))
-images-are [] s b h = refl
-images-are (c ∷ l) s b h =
-    let g = s .registration in
-    let t = services s (callOf g c) in
-    ap (λ (x : List ℕ). images functions x l) (image-after s c h)
-    ∙ (images-are l t (b .1) (call-good s c (b .0) h)
-    ∙ (ap (λ (x : Registration). serviceBytes (services t (callsOf x l))) (services-registration (callOf g c) s)
-    ∙ ap serviceBytes (sym (services-on (callOf g c) (callsOf g l) s))))
+pub images-are : (l : List ByteCall) (s : Service) (p : Policy) → s .registration ≡ p .registration → CallsBytes l → Good s →
+    images functions (serviceBytes s) l ≡ serviceBytes (services s (callsOf p l))
+images-are [] s p e b h = refl
+images-are (c ∷ l) s p e b h =
+    let t = services s (callOf p c) in
+    let q = policies p (callOf p c) in
+    let same : t .registration ≡ q .registration = services-registration (callOf p c) s ∙ (e ∙ sym (policies-registration p (callOf p c))) in
+    ap (λ (x : List ℕ). images functions x l) (image-after s p c e h)
+    ∙ (images-are l t q same (b .1) (call-good s p c (b .0) h)
+    ∙ ap serviceBytes (sym (services-on (callOf p c) (callsOf q l) s)))

@@ -1,7 +1,7 @@
 pub mod Images
 pub mod Returns
 pub mod Turned
-pub mod Lowest
+pub mod First
 pub mod Reached
 pub mod Bounds
 pub mod Written

@@ -25,6 +25,7 @@ use Rattle.abstract_policy.specs.declared.state.Records.{Records}
 use Rattle.abstract_policy.specs.declared.state.Registration.{Registration}
 use Rattle.abstract_policy.specs.declared.order.OptionOrder.{OptionOrder}
 use Rattle.abstract_policy.specs.declared.order.Order.{Order}
+use Rattle.abstract_policy.proofs.Chosen.{policies-append}
 use Rattle.event.specs.Phase.{orderOf, switchOrder, connectOrder}
 use Rattle.event.specs.declared.phase.Leaver.{Leaver}
 use Rattle.event.specs.declared.phase.Phase.{Phase}
@@ -34,9 +35,7 @@ use Rattle.service.specs.declared.Service.{Service}
 use Rattle.wire.proofs.ReadWrite.{and-left, and-right}
 use Rattle.run.specs.Demands as run
 use Rattle.run.specs.Demands.{Equal}
-use Rattle.run.specs.Run.{services}
-use Rattle.run.specs.Sized.{CallsFit}
-use Rattle.abstract_policy.proofs.Chosen.{policies-append}
+use Rattle.run.specs.Run.{services, CallsFit}
 use Rattle.abstract_calls.specs.OneToOne.{CapabilityFits, OrderFits, MismatchFits, AnswerFits, ConsumerFits, DisplayFits}
 use Rattle.abstract_calls.specs.Definition.{OrderFitsAt}
 use Rattle.image.proofs.Quads.{Within}

@@ -21,8 +21,9 @@ use Rattle.run.specs.Demands.{Equal}
 use Rattle.abstract_calls.specs.Called.{refusedCall}
 use Rattle.abstract_calls.specs.Lent.{rowsIn, packetCall, pictureCall}
 use Rattle.abstract_calls.specs.Numbers.{refusedNumber, closedNumber, stepNumber}
-use Rattle.abstract_calls.specs.Calls.{ByteCall, openEvent, giveAnswer, readOrder, writePacket, writePicture, returned, bufferAfter}
-use Rattle.abstract_calls.specs.Definition.{rowsTo, standTo, returnTo, bufferTo}
+use Rattle.abstract_calls.specs.ServiceCall.{ByteCall, openEvent, giveAnswer, readOrder, writePacket, writePicture, rowsTo, standTo}
+use Rattle.abstract_calls.specs.Calls.{returned, bufferAfter}
+use Rattle.abstract_calls.specs.Definition.{returnTo, bufferTo}
 use Rattle.abstract_calls.specs.declared.Rows.{Rows}
 use Rattle.service_image.specs.Image.{serviceBytes}
 use Rattle.service_image.specs.declared.ReadService.{ReadService}

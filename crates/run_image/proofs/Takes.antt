@@ -19,7 +19,9 @@ use Rattle.link.specs.Takes.{takenRead, takeBytes, Carried, copy, turned-back, 
 use Rattle.link.proofs.Lists.{read-back}
 use Rattle.abstract_calls.specs.Called.{Called, called, refusedCall}
 use Rattle.abstract_calls.specs.Numbers.{doneNumber}
-use Rattle.abstract_calls.specs.Calls.{takesOn, desk}
+use Rattle.abstract_calls.specs.Calls.{desks, desk, packetsOf}
+use Rattle.abstract_calls.specs.DeskCall.{DeskCall, takePacket, readShown, readConsumer, readTracked}
+use Rattle.abstract_calls.specs.Functions.{Functions}
 use Rattle.follower_image.specs.Fits.{imageFits}
 use Rattle.follower_image.specs.Image.{followerBytes, followerFrom}
 use Rattle.follower_image.specs.declared.ReadFollower.{ReadFollower}
@@ -84,6 +86,19 @@ all-keep source (x ∷ l) q = (handed-keeps source x (q .0), all-keep source l (
 
 -- a list of them
 
+-- of any functions, the image after these packets have been taken
+abbrev pub takesOn : Functions → List ℕ → List (List ℕ) → List ℕ
+takesOn f b [] = b
+takesOn f b (y ∷ l) = takesOn f (f .take b y .bytes) l
+
+-- only takes change it
+pub desk-takes : (f : Functions) (l : List DeskCall) (b : List ℕ) → desks f b l ≡ takesOn f b (packetsOf l)
+desk-takes f [] b = refl
+desk-takes f (takePacket y ∷ l) b = desk-takes f l (f .take b y .bytes)
+desk-takes f (readShown ∷ l) b = desk-takes f l b
+desk-takes f (readConsumer ∷ l) b = desk-takes f l b
+desk-takes f (readTracked ∷ l) b = desk-takes f l b
+
 takes-bytes : (l : List (List ℕ)) (f : Follower) → AllKeep l → imageFits f ≡ true → takesOn functions (followerBytes f) l ≡ followerBytes (link.takesBytes f l)
 takes-bytes [] f a h = refl
 takes-bytes (x ∷ l) f a h =
@@ -95,12 +110,14 @@ takes-fit (x ∷ l) f a h = takes-fit l (takeBytes f x) (a .1) (a .0 .fits f h)
 
 -- from a fresh follower's image
 
-module _ (b : List ℕ) (e : length b ≡ 241) (l : List (List ℕ)) (a : AllKeep l) where
-  pub desk-is : desk functions b l ≡ followerBytes (followerAfter l)
-  desk-is = ap (λ (x : List ℕ). takesOn functions x l) (started-bytes b e) ∙ takes-bytes l fresh a fresh-fits
+module _ (b : List ℕ) (e : length b ≡ 241) (l : List DeskCall) (a : AllKeep (packetsOf l)) where
+  pub desk-is : desk functions b l ≡ followerBytes (followerAfter (packetsOf l))
+  desk-is =
+      desk-takes functions l (functions .follower-start b .bytes)
+      ∙ (ap (λ (x : List ℕ). takesOn functions x (packetsOf l)) (started-bytes b e) ∙ takes-bytes (packetsOf l) fresh a fresh-fits)
 
-  pub desk-fits : imageFits (followerAfter l) ≡ true
-  desk-fits = takes-fit l fresh a fresh-fits
+  pub desk-fits : imageFits (followerAfter (packetsOf l)) ≡ true
+  desk-fits = takes-fit (packetsOf l) fresh a fresh-fits
 
-  pub desk-read : followerFrom (desk functions b l) ≡ record { ok = true; follower = followerAfter l }
-  desk-read = ap followerFrom desk-is ∙ follower-read-write (followerAfter l) desk-fits
+  pub desk-read : followerFrom (desk functions b l) ≡ record { ok = true; follower = followerAfter (packetsOf l) }
+  desk-read = ap followerFrom desk-is ∙ follower-read-write (followerAfter (packetsOf l)) desk-fits

@@ -19,7 +19,8 @@ use Rattle.wire.specs.Bytes.{eventBytes, pictureBytes}
 use Rattle.wire_writer.specs.declared.Written.{Written}
 use Rattle.abstract_calls.specs.Called.{refusedCall}
 use Rattle.abstract_calls.specs.Lent.{rowsIn, writtenAs, writtenCall, packetCall, pictureCall}
-use Rattle.abstract_calls.specs.Calls.{ByteCall, openEvent, giveAnswer, readOrder, writePacket, writePicture, imageAfter, returned, bufferIn, bufferAfter}
+use Rattle.abstract_calls.specs.ServiceCall.{ByteCall, openEvent, giveAnswer, readOrder, writePacket, writePicture}
+use Rattle.abstract_calls.specs.Calls.{imageAfter, returned, bufferIn, bufferAfter}
 use Rattle.abstract_calls.specs.declared.Rows.{Rows}
 use Rattle.abstract_calls.proofs.Results.{order-low, closed-low, written-low}
 use Rattle.service_image.specs.Image.{serviceFrom}

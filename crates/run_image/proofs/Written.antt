@@ -14,11 +14,12 @@ use Rattle.display.specs.declared.packet.EventPacket.{EventPacket}
 use Rattle.display.specs.declared.packet.Packet.{Packet}
 use Rattle.display.specs.declared.packet.Picture.{Picture}
 use Rattle.abstract_policy.specs.Policy as policy
-use Rattle.abstract_policy.specs.Policy.{Call}
+use Rattle.abstract_policy.specs.Policy.{Call, Policy, started, policies}
 use Rattle.abstract_policy.specs.Returns.{packetTo, pictureTo}
 use Rattle.abstract_policy.specs.declared.state.Registration.{Registration}
 use Rattle.abstract_policy.specs.declared.outcome.SentPacket.{SentPacket}
 use Rattle.abstract_policy.specs.declared.outcome.SentPicture.{SentPicture}
+use Rattle.abstract_policy.proofs.Chosen.{policies-append}
 use Rattle.service.specs.declared.Service.{Service}
 use Rattle.wire.specs.Bytes.{packetBytes}
 use Rattle.wire.specs.Read.{readPacket}
@@ -32,8 +33,9 @@ use Rattle.run.specs.Run as runs
 use Rattle.run.specs.Run.{afterCall, services}
 use Rattle.abstract_calls.specs.Lent.{writtenAs, writtenCall, packetCall, pictureCall}
 use Rattle.abstract_calls.specs.Numbers.{refusedNumber, writtenNumber}
-use Rattle.abstract_calls.specs.Calls.{ByteCall, writePacket, writePicture, bufferAfter, images, CallsBytes, Writes}
-use Rattle.abstract_calls.specs.Definition.{inBuffer, callOf, callsOf, defined}
+use Rattle.abstract_calls.specs.ServiceCall.{ByteCall, writePacket, writePicture, inBuffer}
+use Rattle.abstract_calls.specs.Calls.{bufferAfter, images, CallsBytes, Writes}
+use Rattle.abstract_calls.specs.Definition.{callOf, callsOf, defined}
 use Rattle.abstract_calls.proofs.Results.{refused-low, written-length}
 use Rattle.service_image.specs.Image.{serviceBytes}
 use Rattle.invariant.proofs.Good.{Good}
@@ -52,9 +54,13 @@ front bytes buffer l m =
 
 -- lists of calls
 
-pub calls-on : (g : Registration) (l m : List ByteCall) → callsOf g (l ++ m) ≡ callsOf g l ++ callsOf g m
-calls-on g [] m = refl
-calls-on g (c ∷ l) m = ap (λ (x : List Call). callOf g c ++ x) (calls-on g l m) ∙ sym (append-assoc (callOf g c) (callsOf g l) (callsOf g m))
+pub calls-on : (p : Policy) (l m : List ByteCall) → callsOf p (l ++ m) ≡ callsOf p l ++ callsOf (policies p (callsOf p l)) m
+calls-on p [] m = refl
+calls-on p (c ∷ l) m =
+    let q = policies p (callOf p c) in
+    ap (λ (x : List Call). callOf p c ++ x)
+    (calls-on q l m ∙ ap (λ (x : Policy). callsOf q l ++ callsOf x m) (sym (policies-append p (callOf p c) (callsOf q l))))
+    ∙ sym (append-assoc (callOf p c) (callsOf q l) (callsOf (policies p (callsOf p (c ∷ l))) m))
 
 pub bytes-left : (l m : List ByteCall) → CallsBytes (l ++ m) → CallsBytes l
 bytes-left [] m b = tt
@@ -64,7 +70,7 @@ wrote-right : (l m : List Call) (s : Service) (p : Packet) → runs.HasSent (ser
 wrote-right [] m s p w = w
 wrote-right (c ∷ l) m s p w = inr (wrote-right l m (afterCall s c) p w)
 
-module _ (s : Service) (good : Good s) (demands : run.Demands s) (calls : List ByteCall) (on : OnLink s (callsOf (s .registration) calls)) where
+module _ (s : Service) (good : Good s) (demands : run.Demands s) (calls : List ByteCall) (on : OnLink s (callsOf (started (s .registration)) calls)) where
   abbrev g : Registration
   g = s .registration
 
@@ -74,23 +80,23 @@ module _ (s : Service) (good : Good s) (demands : run.Demands s) (calls : List B
     pub bytes : y ≡ packetBytes p
     pub read : readPacket y ≡ ReadPacket.Packet p
 
-  module _ (before afterCall : List ByteCall) (b : CallsBytes before) where
+  module _ (before rest : List ByteCall) (b : CallsBytes before) where
     -- a write of the run: its packet is among what the run wrote
-    sent : (w : ByteCall) (c : Call) (p : Packet) (buffer y : List ℕ) → calls ≡ before ++ (w ∷ afterCall) → callOf g w ≡ inBuffer buffer c →
-        runs.Sends (services s (callsOf g before)) c p → writtenCall (packetBytes p) buffer .number % 256 ≡ 3 →
+    sent : (w : ByteCall) (c : Call) (p : Packet) (buffer y : List ℕ) → calls ≡ before ++ (w ∷ rest) → callOf (defined g before) w ≡ inBuffer buffer c →
+        runs.Sends (services s (callsOf (started g) before)) c p → writtenCall (packetBytes p) buffer .number % 256 ≡ 3 →
         y ≡ take (writtenCall (packetBytes p) buffer .number / 256 % 256) (writtenCall (packetBytes p) buffer .bytes) → Sent y p
     sent w c p buffer y among is told e f = go (ltb (length buffer) 64) refl is e f
       where
         number : Bool → ℕ
         number t = writtenAs (cond t (Written.Refused 29) (Written.Length (length (packetBytes p))))
 
-        wrote : callOf g w ≡ c ∷ [] → runs.HasSent s (callsOf g calls) p
+        wrote : callOf (defined g before) w ≡ c ∷ [] → runs.HasSent s (callsOf (started g) calls) p
         wrote q =
-            subst (λ (l : List Call). runs.HasSent s l p) (sym (ap (callsOf g) among ∙ calls-on g before (w ∷ afterCall)))
-            (wrote-right (callsOf g before) (callOf g w ++ callsOf g afterCall) s p
-            (subst (λ (l : List Call). runs.HasSent (services s (callsOf g before)) (l ++ callsOf g afterCall) p) (sym q) (inl told)))
+            subst (λ (l : List Call). runs.HasSent s l p) (sym (ap (callsOf (started g)) among ∙ calls-on (started g) before (w ∷ rest)))
+            (wrote-right (callsOf (started g) before) (callOf (defined g before) w ++ callsOf (policies (defined g before) (callOf (defined g before) w)) rest) s p
+            (subst (λ (l : List Call). runs.HasSent (services s (callsOf (started g) before)) (l ++ callsOf (policies (defined g before) (callOf (defined g before) w)) rest) p) (sym q) (inl told)))
 
-        go : (t : Bool) → ltb (length buffer) 64 ≡ t → callOf g w ≡ cond t [] (c ∷ []) → number t % 256 ≡ 3 →
+        go : (t : Bool) → ltb (length buffer) 64 ≡ t → callOf (defined g before) w ≡ cond t [] (c ∷ []) → number t % 256 ≡ 3 →
             y ≡ take (number t / 256 % 256) (cond t buffer (sets buffer 0 (packetBytes p))) → Sent y p
         go true t q h z = absurd (refused-not 29 h)
         go false t q h z =
@@ -98,7 +104,7 @@ module _ (s : Service) (good : Good s) (demands : run.Demands s) (calls : List B
             let k : y ≡ packetBytes p = z ∙ front (packetBytes p) buffer (packet-length p (on .source .fits p v)) (ltb-false (length buffer) 64 t) in
             record { written = v; bytes = k; read = read-back (on .source) p y v k }
 
-    pub packet-sent : (buffer y : List ℕ) → calls ≡ before ++ (writePacket buffer ∷ afterCall) → Writes functions (images functions (serviceBytes s) before) (writePacket buffer) y →
+    pub packet-sent : (buffer y : List ℕ) → calls ≡ before ++ (writePacket buffer ∷ rest) → Writes functions (images functions (serviceBytes s) before) (writePacket buffer) y →
         (e : EventPacket) × (packetTo (defined g before) ≡ SentPacket.Packet e) × Sent y (Packet.Event e)
     packet-sent buffer y among w =
         go (packetTo (defined g before)) refl
@@ -114,7 +120,7 @@ module _ (s : Service) (good : Good s) (demands : run.Demands s) (calls : List B
         go (SentPacket.Packet e) q h z =
             (e, q, sent (writePacket buffer) policy.writePacket (Packet.Event e) buffer y among refl (e, reached-equal s good demands before b .packet ∙ q, refl) h z)
 
-    pub picture-sent : (buffer y : List ℕ) → calls ≡ before ++ (writePicture buffer ∷ afterCall) → Writes functions (images functions (serviceBytes s) before) (writePicture buffer) y →
+    pub picture-sent : (buffer y : List ℕ) → calls ≡ before ++ (writePicture buffer ∷ rest) → Writes functions (images functions (serviceBytes s) before) (writePicture buffer) y →
         (v : Picture) × (pictureTo (defined g before) ≡ SentPicture.Picture v) × Sent y (Packet.Picture v)
     picture-sent buffer y among w =
         go (pictureTo (defined g before)) refl

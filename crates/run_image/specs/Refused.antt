@@ -5,8 +5,7 @@ use mathlib.Core.List.{List, [], _∷_, _++_}
 use Rattle.service.specs.Refusals.{openRefusals, answerRefusals}
 use Rattle.service.specs.declared.Service.{Service}
 use Rattle.send.specs.Send.{packetRefusals, pictureRefusals}
-use Rattle.abstract_calls.specs.Calls.{ByteCall, openEvent, giveAnswer, readOrder, writePacket, writePicture}
-use Rattle.abstract_calls.specs.Definition.{wrongRows, short}
+use Rattle.abstract_calls.specs.ServiceCall.{ByteCall, openEvent, giveAnswer, readOrder, writePacket, writePicture, wrongRows, short}
 use Rattle.service_image.specs.Image.{serviceFrom}
 use Rattle.service_image.specs.declared.ReadService.{ReadService}
 

@@ -1,10 +1,21 @@
-//! Every refusal, alone and with each higher one that the function has.
+//! Every refusal, alone and with each later one that the function has.
 
 use crate::{
     bytes::*,
     calls::{Call, Calls, Rows, perform},
     report::Report,
 };
+
+/// The numbers in the order in which their conditions are looked at (crates/abstract_policy/specs/Refusals.antt).
+const ORDER: [u8; 14] = [20, 21, 22, 23, 24, 25, 26, 27, 28, 29, 30, 31, 32, 33];
+
+/// A number's place in it.
+fn rank(number: u8) -> usize {
+    ORDER
+        .iter()
+        .position(|other| *other == number)
+        .expect("each number has a place")
+}
 
 const PORTS: u8 = 3;
 const CHARGERS: u8 = 2;
@@ -27,7 +38,7 @@ impl Stand {
     }
 }
 
-/// Makes the call where these conditions apply, and asks for the lowest.
+/// Makes the call where these conditions apply, and asks for the first.
 fn judge(
     report: &mut Report,
     calls: &dyn Calls,
@@ -36,7 +47,11 @@ fn judge(
     call: &Call,
     applying: &[u8],
 ) {
-    let wanted = applying.iter().copied().min().unwrap_or(0);
+    let wanted = applying
+        .iter()
+        .copied()
+        .min_by_key(|number| rank(*number))
+        .unwrap_or(0);
     let result = perform(calls, image, call).and_then(|after| match after.refusal() {
         given if given == wanted => Ok(()),
         given => Err(format!("{given} is given, {wanted} wanted")),
@@ -53,19 +68,19 @@ fn judge(
     } else if applying.len() == 1 {
         report.count(&format!("{function} {wanted} alone"));
     }
-    for higher in applying.iter().filter(|number| **number > wanted) {
-        report.count(&format!("{function} {wanted} with {higher}"));
+    for later in applying.iter().filter(|number| **number != wanted) {
+        report.count(&format!("{function} {wanted} with {later}"));
     }
 }
 
 /// The numbers of a function, all of which must have come up alone and in pairs, but for pairs that cannot be.
 fn demand(report: &mut Report, function: &str, numbers: &[u8], never: &[(u8, u8)]) {
     let mut names = vec![format!("{function} accepted")];
-    for (place, lower) in numbers.iter().enumerate() {
-        names.push(format!("{function} {lower} alone"));
-        for higher in &numbers[place + 1..] {
-            if !never.contains(&(*lower, *higher)) {
-                names.push(format!("{function} {lower} with {higher}"));
+    for (place, first) in numbers.iter().enumerate() {
+        names.push(format!("{function} {first} alone"));
+        for later in &numbers[place + 1..] {
+            if !never.contains(&(*first, *later)) {
+                names.push(format!("{function} {first} with {later}"));
             }
         }
     }

@@ -9,7 +9,7 @@ use lib.ListN.{length}
 use borrow.Author.Tests.{eqb-true, eqb-false}
 use Rattle.power_policy_interface.specs.declared.psu.Result.{Result}
 use Rattle.power_policy_service.specs.declared.config.OptionConfig.{OptionConfig}
-use Rattle.abstract_policy.specs.Refusals.{firstRefused, Lowest, overRegistered}
+use Rattle.abstract_policy.specs.Refusals.{firstRefused, First, overRegistered}
 use Rattle.abstract_policy.specs.Given.{eventOf, resultOf}
 use Rattle.abstract_policy.specs.declared.state.Records.{Records}
 use Rattle.abstract_policy.specs.declared.state.Registration.{Registration}
@@ -18,7 +18,7 @@ use Rattle.abstract_policy.specs.declared.order.Order.{Order}
 use Rattle.abstract_policy.specs.declared.outcome.Step.{Step}
 use Rattle.abstract_policy.specs.declared.outcome.SentPacket.{SentPacket}
 use Rattle.abstract_policy.specs.declared.outcome.SentPicture.{SentPicture}
-use Rattle.abstract_policy.proofs.Lowest.{lowest}
+use Rattle.abstract_policy.proofs.First.{first}
 use Rattle.event.specs.Phase.{orderOf}
 use Rattle.event.specs.declared.phase.Phase.{Phase}
 use Rattle.event.specs.declared.phase.Turn.{Turn}
@@ -34,8 +34,9 @@ use Rattle.wire_writer.specs.declared.Written.{Written}
 use Rattle.abstract_calls.specs.Called.{called, refusedCall}
 use Rattle.abstract_calls.specs.Lent.{rowsIn, writtenAs, writtenCall, packetCall, pictureCall}
 use Rattle.abstract_calls.specs.Numbers.{refusedNumber, writtenNumber, doneNumber}
-use Rattle.abstract_calls.specs.Calls.{ByteCall, openEvent, giveAnswer, readOrder, writePacket, writePicture, returned}
-use Rattle.abstract_calls.specs.Definition.{wrongRows, short, startConditions, Refuses}
+use Rattle.abstract_calls.specs.ServiceCall.{ByteCall, openEvent, giveAnswer, readOrder, writePacket, writePicture, wrongRows, short}
+use Rattle.abstract_calls.specs.Calls.{returned}
+use Rattle.abstract_calls.specs.Definition.{startConditions, Refuses}
 use Rattle.abstract_calls.specs.declared.Rows.{Rows}
 use Rattle.abstract_calls.proofs.Results.{order-low, closed-low, written-low, done-low}
 use Rattle.service_image.specs.Image.{serviceBytes, serviceFrom}
@@ -53,7 +54,7 @@ moved-low b (OptionOrder.Some o) g n k t e = let q : _≡_ {A = ℕ} 1 0 = sym (
 -- a call that makes a step: 21 and 22, then the first number of a list decides
 
 step-refuses : (b : List ℕ) (s : Service) (psus chargers : List ℕ) (l : List (Bool × ℕ)) (x : Records → Stepped)
-    → ((t : Bool) → Lowest ((false, 21) ∷ (t, 22) ∷ l) (cond t 22 (firstRefused l)))
+    → ((t : Bool) → First ((false, 21) ∷ (t, 22) ∷ l) (cond t 22 (firstRefused l)))
     → ((r : Records) → steppedCall b (x r) .number % 256 ≡ 0 → ⊥)
     → Refuses (ofImage (ReadService.Read s) (λ s. wrongRows (s .registration) psus chargers ∷ l))
     (onService b (ReadService.Read s) psus chargers (λ s r. cond (eqb (firstRefused l) 0) (x r) (refused (firstRefused l) s)) .number)
@@ -75,8 +76,8 @@ step-refuses b s psus chargers l x low free = go (rows .ok)
 
     go : (t : Bool) → Refuses ((false, 21) ∷ (not t, 22) ∷ l)
         (cond t (steppedCall b (cond (eqb n 0) (x (rows .records)) (refused n s))) (refusedCall 22 b) .number)
-    go true = record { lowest = low false; turned-back = back (eqb n 0) refl; accepted = goes (eqb n 0) refl }
-    go false = record { lowest = low true; turned-back = λ z. refl; accepted = λ e. absurd (omega (arith, e)) }
+    go true = record { first = low false; turned-back = back (eqb n 0) refl; accepted = goes (eqb n 0) refl }
+    go false = record { first = low true; turned-back = λ z. refl; accepted = λ e. absurd (omega (arith, e)) }
 
 -- open and answer
 
@@ -91,11 +92,11 @@ open-refuses : (b : List ℕ) (r : ReadService) (psus chargers : List ℕ) (kind
     → Refuses (ofImage r (λ s. wrongRows (s .registration) psus chargers ∷ openRefusals s kind device detail))
     (onService b r psus chargers (λ s x. openOf s kind device detail x) .number)
 open-refuses b ReadService.Refused psus chargers kind device detail =
-    record { lowest = lowest _ refl; turned-back = λ z. refl; accepted = λ e. absurd (omega (arith, e)) }
+    record { first = first _ refl; turned-back = λ z. refl; accepted = λ e. absurd (omega (arith, e)) }
 open-refuses b (ReadService.Read s) psus chargers kind device detail =
     step-refuses b s psus chargers (openRefusals s kind device detail)
     (λ r. cond (eqb kind 5) (stepped (Step.Closed Result.Ok 0) s) (openedOf s device (eventOf kind detail) r))
-    (λ t. lowest _ refl) (λ r. opened-low b s kind device detail r (eqb kind 5))
+    (λ t. first _ refl) (λ r. opened-low b s kind device detail r (eqb kind 5))
 
 answered-low : (b : List ℕ) (s : Service) (o : Order) (a : Result) (r : Records) → steppedCall b (answeredBy s o a r) .number % 256 ≡ 0 → ⊥
 answered-low b s o a r e =
@@ -105,10 +106,10 @@ answered-low b s o a r e =
 answer-refuses : (b : List ℕ) (r : ReadService) (psus chargers : List ℕ) (a : ℕ)
     → Refuses (ofImage r (λ s. wrongRows (s .registration) psus chargers ∷ answerRefusals s a)) (onService b r psus chargers (λ s x. answerOf s a x) .number)
 answer-refuses b ReadService.Refused psus chargers a =
-    record { lowest = lowest _ refl; turned-back = λ z. refl; accepted = λ e. absurd (omega (arith, e)) }
+    record { first = first _ refl; turned-back = λ z. refl; accepted = λ e. absurd (omega (arith, e)) }
 answer-refuses b (ReadService.Read s) psus chargers a =
     step-refuses b s psus chargers (answerRefusals s a) (λ r. answeredBy s (orderIn (orderOf (s .phase))) (resultOf a) r)
-    (λ t. lowest _ refl) (λ r. answered-low b s (orderIn (orderOf (s .phase))) (resultOf a) r)
+    (λ t. first _ refl) (λ r. answered-low b s (orderIn (orderOf (s .phase))) (resultOf a) r)
 
 -- order
 
@@ -117,47 +118,47 @@ stand-low OptionOrder.None p n e = let q : _≡_ {A = ℕ} 2 0 = sym (closed-low
 stand-low (OptionOrder.Some o) p n e = let q : _≡_ {A = ℕ} 1 0 = sym (order-low o) ∙ e in omega (arith, q)
 
 order-refuses : (r : ReadService) → Refuses (ofImage r (λ s. [])) (orderCall r)
-order-refuses ReadService.Refused = record { lowest = lowest _ refl; turned-back = λ z. refl; accepted = λ e. absurd (omega (arith, e)) }
+order-refuses ReadService.Refused = record { first = first _ refl; turned-back = λ z. refl; accepted = λ e. absurd (omega (arith, e)) }
 order-refuses (ReadService.Read s) =
-    record { lowest = lowest _ refl; turned-back = λ z. absurd (z refl); accepted = λ e. stand-low (orderOf (s .phase)) (s .phase) (s .orders) }
+    record { first = first _ refl; turned-back = λ z. absurd (z refl); accepted = λ e. stand-low (orderOf (s .phase)) (s .phase) (s .orders) }
 
 -- the writes: the buffer is looked at last
 
-written-at : (l : List (Bool × ℕ)) (bytes buffer : List ℕ) (t : Bool) → ltb (length buffer) 64 ≡ t → Lowest l (firstRefused l)
+written-at : (l : List (Bool × ℕ)) (bytes buffer : List ℕ) (t : Bool) → ltb (length buffer) 64 ≡ t → First l (firstRefused l)
     → firstRefused l ≡ cond t 29 0 → Refuses l (writtenCall bytes buffer .number)
 written-at l bytes buffer true e w q =
     let x : writtenCall bytes buffer .number ≡ refusedNumber 29 =
     ap (λ (t : Bool). writtenAs (cond t (Written.Refused 29) (Written.Length (length bytes)))) e in
-    record { lowest = w; turned-back = λ z. x ∙ ap refusedNumber (sym q); accepted = λ z. absurd (omega (arith, z, q)) }
+    record { first = w; turned-back = λ z. x ∙ ap refusedNumber (sym q); accepted = λ z. absurd (omega (arith, z, q)) }
 written-at l bytes buffer false e w q =
     let x : writtenCall bytes buffer .number ≡ writtenNumber (length bytes) =
     ap (λ (t : Bool). writtenAs (cond t (Written.Refused 29) (Written.Length (length bytes)))) e in
     record {
-      lowest = w;
+      first = w;
       turned-back = λ z. absurd (z q);
       accepted = λ z y. let v : _≡_ {A = ℕ} 3 0 = sym (written-low (length bytes)) ∙ (ap (λ (n : ℕ). n % 256) (sym x) ∙ y) in omega (arith, v);
     }
 
 packet-refuses : (r : ReadService) (buffer : List ℕ) → Refuses (ofImage r (λ s. packetRefusals s ++ short buffer)) (writePacketCall r buffer .number)
 packet-refuses ReadService.Refused buffer =
-    record { lowest = lowest _ refl; turned-back = λ z. refl; accepted = λ e. absurd (omega (arith, e)) }
+    record { first = first _ refl; turned-back = λ z. refl; accepted = λ e. absurd (omega (arith, e)) }
 packet-refuses (ReadService.Read s) buffer = go (isOpen (s .phase)) (eqb (s .number) 0) (ltb (length buffer) 64) refl
   where
     go : (a z t : Bool) → ltb (length buffer) 64 ≡ t → Refuses ((false, 21) ∷ (a, 25) ∷ (z, 27) ∷ (t, 29) ∷ [])
         (packetCall (cond (eqb (cond a 25 (cond z 27 0)) 0) (SentPacket.Packet (packetOf s)) (SentPacket.Refused (cond a 25 (cond z 27 0)))) buffer .number)
-    go true z t e = record { lowest = lowest _ refl; turned-back = λ y. refl; accepted = λ y. absurd (omega (arith, y)) }
-    go false true t e = record { lowest = lowest _ refl; turned-back = λ y. refl; accepted = λ y. absurd (omega (arith, y)) }
-    go false false t e = written-at _ (eventBytes (packetOf s)) buffer t e (lowest _ refl) refl
+    go true z t e = record { first = first _ refl; turned-back = λ y. refl; accepted = λ y. absurd (omega (arith, y)) }
+    go false true t e = record { first = first _ refl; turned-back = λ y. refl; accepted = λ y. absurd (omega (arith, y)) }
+    go false false t e = written-at _ (eventBytes (packetOf s)) buffer t e (first _ refl) refl
 
 picture-refuses : (r : ReadService) (buffer : List ℕ) → Refuses (ofImage r (λ s. pictureRefusals s ++ short buffer)) (writePictureCall r buffer .number)
 picture-refuses ReadService.Refused buffer =
-    record { lowest = lowest _ refl; turned-back = λ z. refl; accepted = λ e. absurd (omega (arith, e)) }
+    record { first = first _ refl; turned-back = λ z. refl; accepted = λ e. absurd (omega (arith, e)) }
 picture-refuses (ReadService.Read s) buffer = go (isOpen (s .phase)) (ltb (length buffer) 64) refl
   where
     go : (a t : Bool) → ltb (length buffer) 64 ≡ t → Refuses ((false, 21) ∷ (a, 25) ∷ (t, 29) ∷ [])
         (pictureCall (cond (eqb (cond a 25 0) 0) (SentPicture.Picture (pictureOf s)) (SentPicture.Refused (cond a 25 0))) buffer .number)
-    go true t e = record { lowest = lowest _ refl; turned-back = λ y. refl; accepted = λ y. absurd (omega (arith, y)) }
-    go false t e = written-at _ (pictureBytes (pictureOf s)) buffer t e (lowest _ refl) refl
+    go true t e = record { first = first _ refl; turned-back = λ y. refl; accepted = λ y. absurd (omega (arith, y)) }
+    go false t e = written-at _ (pictureBytes (pictureOf s)) buffer t e (first _ refl) refl
 
 -- every call, on any bytes
 pub call-refuses : (b : List ℕ) (c : ByteCall) → Refuses (conditions b c) (returned functions b c)
@@ -175,9 +176,9 @@ start-refuses image OptionConfig.None ports chargers = go (ltb 16 ports) (ltb 8 
   where
     go : (x y : Bool) → Refuses ((x || (y || true), 20) ∷ (not (eqb (length image) 67), 21) ∷ [])
         (startedCall image (cond (eqb (cond (x || (y || true)) 20 0) 0) (Started.Refused 20) (Started.Refused (cond (x || (y || true)) 20 0))) .number)
-    go true y = record { lowest = lowest _ refl; turned-back = λ z. refl; accepted = λ e. absurd (omega (arith, e)) }
-    go false true = record { lowest = lowest _ refl; turned-back = λ z. refl; accepted = λ e. absurd (omega (arith, e)) }
-    go false false = record { lowest = lowest _ refl; turned-back = λ z. refl; accepted = λ e. absurd (omega (arith, e)) }
+    go true y = record { first = first _ refl; turned-back = λ z. refl; accepted = λ e. absurd (omega (arith, e)) }
+    go false true = record { first = first _ refl; turned-back = λ z. refl; accepted = λ e. absurd (omega (arith, e)) }
+    go false false = record { first = first _ refl; turned-back = λ z. refl; accepted = λ e. absurd (omega (arith, e)) }
 start-refuses image (OptionConfig.Some c) ports chargers = go (overRegistered (OptionConfig.Some c) ports chargers) (eqb (length image) 67) refl
   where
     s : Service
@@ -189,11 +190,11 @@ start-refuses image (OptionConfig.Some c) ports chargers = go (overRegistered (O
 
     go : (o t : Bool) → eqb (length image) 67 ≡ t → Refuses ((o, 20) ∷ (not t, 21) ∷ [])
         (startedCall image (cond (eqb (cond o 20 0) 0) (Started.Service s) (Started.Refused (cond o 20 0))) .number)
-    go true t e = record { lowest = lowest _ refl; turned-back = λ z. refl; accepted = λ z. absurd (omega (arith, z)) }
+    go true t e = record { first = first _ refl; turned-back = λ z. refl; accepted = λ z. absurd (omega (arith, z)) }
     go false true e =
         record {
-          lowest = lowest _ refl;
+          first = first _ refl;
           turned-back = λ z. absurd (z refl);
           accepted = λ z q. let y : _≡_ {A = ℕ} 4 0 = sym done-low ∙ (ap (λ (n : ℕ). n % 256) (sym (at true e)) ∙ q) in omega (arith, y);
         }
-    go false false e = record { lowest = lowest _ refl; turned-back = λ z. at false e; accepted = λ z. absurd (omega (arith, z)) }
+    go false false e = record { first = first _ refl; turned-back = λ z. at false e; accepted = λ z. absurd (omega (arith, z)) }
