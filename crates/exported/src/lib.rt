@@ -1,1 +1,1 @@
-// The exported functions as a record of functions, and calls of any such functions. No code.
+// Our exported functions as a record of functions. No code.

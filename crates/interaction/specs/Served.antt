@@ -1,4 +1,4 @@
--- An event at the service: fed with the answers that document 01 does not turn back, and what the service then is to show.
+-- An event at the service: the service after a list of answers, and where it is to stand then (the event fed with them: abstract_policy specs/Fed.antt).
 use Prim.Native.Nat.{ℕ, suc, _≤_}
 use mathlib.Core.Bool.{false}
 use mathlib.Core.List.{[], _∷_}
@@ -16,7 +16,7 @@ use Rattle.service.specs.Service.{answerOf}
 use Rattle.service.specs.declared.Service.{Service}
 use Rattle.interaction.specs.Machine.{standsAt}
 
--- the service after them, refused ones included
+-- the service after these answers, refused ones included
 abbrev pub serviceAfter : Service → Answers → Service
 serviceAfter s [] = s
 serviceAfter s (x ∷ l) = serviceAfter (answerOf s (x .0) (x .1) .service) l

@@ -1,1 +1,1 @@
-// The event as an interaction, and that the machine follows it: specs/Interaction.antt and proofs/. No code.
+// That the machine follows the event (abstract_policy specs/Interaction.antt): what its phases stand for, specs/, and the theorem, proofs/. No code.

@@ -10,10 +10,10 @@
 --   run          abstract_policy specs/Policy.antt, Returns.antt, Orders.antt, Given.antt
 --   event        abstract_policy specs/Action.antt, Interaction.antt, State.antt, to be laid beside the Rust
 --   choice, grant, configuration
---                power_policy_service specs/Consumer.antt, Choice.antt, Provider.antt, Config.antt; abstract_policy specs/Chosen.antt
+--                power_policy_service specs/Consumer.antt, Choice.antt, Provider.antt, Config.antt, Rows.antt; abstract_policy specs/Chosen.antt, Ends.antt
 --   refusals     abstract_policy specs/Refusals.antt
 --   numbers      abstract_calls specs/Numbers.antt, OneToOne.antt, Called.antt, Lent.antt
---   packets      wire specs/Number.antt, Parser.antt, Packet.antt, Bytes.antt, Read.antt; display specs/; records specs/; power_policy_interface specs/
+--   packets      wire specs/Number.antt, Parser.antt, Packet.antt, Bytes.antt, Read.antt; wire_writer specs/; display specs/; records specs/; power_policy_interface specs/
 --   follower     abstract_desk specs/Follower.antt, Takes.antt
 --   link         `Link`, below
 use Prim.Native.Nat.{ℕ, _+_, _*_, _%_, _≤_}

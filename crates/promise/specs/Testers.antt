@@ -1,4 +1,4 @@
--- The second programs of document 01, "To the testers": each changes one of our functions.
+-- The second programs of document 01, "To the testers": each is ours but for one function, or for the three readers.
 use Prim.Native.Nat.{ℕ, _-_}
 use mathlib.Core.Bool.{cond}
 use mathlib.Core.List.{List, _++_}

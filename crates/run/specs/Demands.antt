@@ -75,7 +75,7 @@ pub record Equal (s : Service) (p : Policy) : Type 0 where
   -- the next call, whichever it is
   pub opening : (kind device detail : ℕ) (r : Records) → openOf s kind device detail r .step ≡ openTo p kind device detail r
   pub answering : (a : ℕ) (r : Records) → answerOf s a r .step ≡ answerTo (p .stand) a r
-  -- the packet's orders are the length of the definition's list of orders (specs/Orders.antt)
+  -- the packet's orders are the length of the definition's list of orders (abstract_policy specs/Orders.antt)
   pub packet : sendPacket s ≡ packetTo p
   pub picture : sendPicture s ≡ pictureTo p
 

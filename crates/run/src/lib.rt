@@ -1,1 +1,1 @@
-// A run of the service: its calls, what it writes, and what is held at each number by the event's definition alone. No code.
+// A run of the service and what it writes; that it is where the definition's run is (abstract_policy specs/Policy.antt), and a writer on the link. No code.

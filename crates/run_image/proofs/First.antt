@@ -1,4 +1,4 @@
--- The number that a call returns is the lowest that applies: the lists ascend, whatever the call, and each definition looks at its conditions in their order.
+-- The number that a call returns is the first that applies: the lists go by the order, whatever the call, and each definition looks at its conditions in it.
 use mathlib.Core.Path.{_≡_, refl, sym, ap, _∙_}
 use mathlib.Core.Bool.{Bool, true, false, cond, not, _||_}
 use mathlib.Core.List.{List, [], _∷_, _++_}

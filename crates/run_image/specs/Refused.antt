@@ -1,4 +1,4 @@
--- What turns a call on any bytes back: 21 where no service is written so, else what turns a call on that service back, with their numbers, lowest first.
+-- What turns a call on any bytes back: 21 where no service is written so, else what turns a call on that service back, with their numbers, in their order.
 use Prim.Native.Nat.{ℕ}
 use mathlib.Core.Bool.{Bool, true, false}
 use mathlib.Core.List.{List, [], _∷_, _++_}
