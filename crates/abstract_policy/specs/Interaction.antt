@@ -1,6 +1,6 @@
 -- The event, transcribed from consumer.rs, provider.rs and service/mod.rs, to be laid beside them. The names are theirs; a part of one of their
--- functions that has a name of its own here (attachCharger, detachCharger, disconnectCurrent, connectConsumer, connectBest, provide, removeProvider) stands
--- just before the function.
+-- functions that has a name of its own here (attachCharger, detachCharger, disconnectCurrent, connectConsumer, connectBest, provide, removeProvider, and what
+-- is computed or tested: unconstrainedOf, isConnectedConsumer, sameAvailable, reasonOf) stands just before the function.
 use Prim.Native.Nat.{ℕ, zero, suc, min}
 use mathlib.Core.Bool.{Bool, true, false, cond, _&&_}
 use mathlib.Core.List.{[]}

@@ -13,7 +13,6 @@ use Rattle.power_policy_interface.specs.declared.psu.PsuState.{PsuState}
 use Rattle.power_policy_interface.specs.declared.psu.StateKind.{StateKind}
 use Rattle.power_policy_interface.specs.declared.psu.State.{State}
 use Rattle.power_policy_interface.specs.declared.psu.Result.{Result}
-use Rattle.power_policy_interface.specs.declared.charger.State as charger
 use Rattle.power_policy_interface.proofs.Same.{option-provider-refl}
 use Rattle.display.specs.declared.OptionAvailableConsumer.{OptionAvailableConsumer}
 use Rattle.display.specs.declared.State as shown

@@ -15,7 +15,6 @@ use Rattle.follower.specs.declared.Shown.{Shown}
 use Rattle.follower.specs.declared.held.Held.{Held}
 use Rattle.follower.specs.Held.{none, nothing, packetAt}
 
--- a number of 32 bits
 -- place i holds no packet, or that of an event from lo to hi whose place it is, its notices in their one form
 abbrev pub InPlace : ℕ → ℕ → ℕ → EventPacket → Type 0
 InPlace lo hi i p =

@@ -1,3 +1,4 @@
+-- The set is what `Providers::new` returns.
 use borrow.Author.Needs.{needs}
 use Rattle.display.proofs.providers.Providers.new.Reads as new-reads
 use Rattle.abstract_policy.proofs.state.InternalState.default.Statement.{statement}
@@ -5,11 +6,9 @@ use Rattle.abstract_policy.proofs.state.InternalState.default.Tie as ti
 use Rattle.abstract_policy.proofs.state.InternalState.default.Reads as reads
 use Rattle.abstract_policy.proofs.state.InternalState.default.Lts as lts
 
--- src/memory.rt:88:34
 new-requires : tie.Need-new-requires
 new-requires c κs = search needs
 
--- src/memory.rt:78:5
 returns : tie.Need-returns
 returns c = rw (c .new .ensures)
 

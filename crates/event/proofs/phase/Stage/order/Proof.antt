@@ -1,46 +1,37 @@
+-- What the calls ensure, by the tests on the way, is the definition.
 use borrow.Author.Needs.{needs}
 use Rattle.event.proofs.phase.Stage.order.Statement.{statement}
 use Rattle.event.proofs.phase.Stage.order.Tie as tie
 use Rattle.event.proofs.phase.Stage.order.Reads as reads
 use Rattle.event.proofs.phase.Stage.order.Lts as lts
 
--- src/phase.rt:88:27
 enum-told : tie.Need-enum-told
 enum-told c = search needs
 
--- src/phase.rt:89:32
 enum-told-2 : tie.Need-enum-told-2
 enum-told-2 c = search needs
 
--- src/phase.rt:90:29
 enum-known-self : tie.Need-enum-known-self
 enum-known-self c = search needs
 
--- src/phase.rt:91:33
 enum-known-self-2 : tie.Need-enum-known-self-2
 enum-known-self-2 c = search needs
 
--- src/phase.rt:92:30
 enum-known-self-3 : tie.Need-enum-known-self-3
 enum-known-self-3 c = search needs
 
--- src/phase.rt:83:5
 returns : tie.Need-returns
 returns c = rw (c .enum-told .given .1)
 
--- src/phase.rt:83:5
 returns-2 : tie.Need-returns-2
 returns-2 c = search needs
 
--- src/phase.rt:83:5
 returns-3 : tie.Need-returns-3
 returns-3 c = rw (c .known-told .given .1, c .before .self .given .1)
 
--- src/phase.rt:83:5
 returns-4 : tie.Need-returns-4
 returns-4 c = rw (c .known-told2 .given .1, c .before .self2 .given .1)
 
--- src/phase.rt:83:5
 returns-5 : tie.Need-returns-5
 returns-5 c = rw (c .known-told3 .given .1, c .before .self3 .given .1)
 
