@@ -5,6 +5,7 @@ use mathlib.Core.List.{List, [], _∷_, _++_}
 use mathlib.Core.Path.{_≡_}
 use lib.Dec.{eqb}
 use lib.ListN.{length}
+use Rattle.power_policy_interface.specs.Limits.{serviceLength}
 use Rattle.display.specs.declared.Display.{Display}
 use Rattle.power_policy_service.specs.declared.config.OptionConfig.{OptionConfig}
 use Rattle.abstract_policy.specs.Refusals.{firstRefused, First, startRefusals}
@@ -74,7 +75,7 @@ OrderFitsAt (at n o k) = OrderFits o
 
 -- of a start: 20, and 21 for bytes of another length than an image's
 abbrev pub startConditions : List ℕ → OptionConfig → ℕ → ℕ → List (Bool × ℕ)
-startConditions image config ports chargers = startRefusals config ports chargers ++ ((not (eqb (length image) 67), 21) ∷ [])
+startConditions image config ports chargers = startRefusals config ports chargers ++ ((not (eqb (length image) serviceLength), 21) ∷ [])
 
 -- the first that applies is returned, and a call that meets none is not turned back (its low byte is not 0)
 pub record Refuses (l : List (Bool × ℕ)) (number : ℕ) : Type 0 where

@@ -52,7 +52,7 @@ stepNumber (Step.Order o) = orderNumber o
 stepNumber (Step.Closed a n) = closedNumber a n
 stepNumber (Step.Refused n) = refusedNumber n
 
--- so many bytes, at most 64
+-- so many bytes, at most 255
 abbrev pub writtenNumber : ℕ → ℕ
 writtenNumber length = packed 3 (length % 256) 0 0 0 0
 

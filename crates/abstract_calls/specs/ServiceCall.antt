@@ -5,6 +5,7 @@ use mathlib.Core.Bool.{Bool, not, cond}
 use mathlib.Core.List.{List, [], _∷_, _++_}
 use lib.Dec.{ltb}
 use lib.ListN.{length}
+use Rattle.power_policy_interface.specs.Limits.{bufferLength}
 use Rattle.abstract_policy.specs.Policy as policy
 use Rattle.abstract_policy.specs.Policy.{Call, Policy, Stand, between, at, orderAt, isAt}
 use Rattle.abstract_policy.specs.Refusals.{openConditions, answerConditions, packetConditions, pictureConditions}
@@ -94,10 +95,10 @@ orderReading = record {
 
 -- 29: buffer under 64 bytes
 abbrev pub short : List ℕ → List (Bool × ℕ)
-short buffer = (ltb (length buffer) 64, 29) ∷ []
+short buffer = (ltb (length buffer) bufferLength, 29) ∷ []
 
 abbrev pub inBuffer : List ℕ → Call → List Call
-inBuffer buffer c = cond (ltb (length buffer) 64) [] (c ∷ [])
+inBuffer buffer c = cond (ltb (length buffer) bufferLength) [] (c ∷ [])
 
 abbrev pub packetWriting : List ℕ → ServiceCall
 packetWriting buffer = record {

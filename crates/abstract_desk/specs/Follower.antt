@@ -5,6 +5,7 @@ use mathlib.Core.Bool.{cond}
 use mathlib.Core.List.{List, [], _∷_}
 use mathlib.Core.Option.{Option, none, some}
 use lib.Dec.{eqb, leb, ltb}
+use Rattle.power_policy_interface.specs.Limits.{window}
 use Rattle.display.specs.Notices.{allApplied}
 use Rattle.display.specs.declared.Display.{Display}
 use Rattle.display.specs.declared.packet.EventPacket.{EventPacket}
@@ -53,7 +54,7 @@ takenEvent n d held e =
     -- n + 1 is applied if its answer is 0, otherwise lost; what is held follows in turn
     (cond (eqb (e .number) (n + 1)) (inTurn (greatest (e .number) held) n d (e ∷ held))
     -- n + 2 to n + 8 are held
-    (cond (leb (e .number) (n + 8)) (showing n d (heldWith e held))
+    (cond (leb (e .number) (n + window)) (showing n d (heldWith e held))
     -- beyond n + 8, lost: the floor is the greatest number met, and held packets are dropped
     (lost (greatest (e .number) held))))
 

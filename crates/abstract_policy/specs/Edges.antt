@@ -4,6 +4,7 @@ use mathlib.Core.Bool.{Bool, true, false}
 use mathlib.Core.List.{List, [], _∷_, _++_}
 use mathlib.Core.Path.{_≡_}
 use lib.ListN.{length, replicate}
+use Rattle.power_policy_interface.specs.Limits.{maxPorts, maxChargers}
 use Rattle.power_policy_interface.specs.Charger.{defaultState as chargerDefault}
 use Rattle.power_policy_interface.specs.Psu.{defaultState as psuDefault}
 use Rattle.power_policy_interface.specs.declared.capability.ConsumerPowerCapability.{ConsumerPowerCapability}
@@ -79,7 +80,7 @@ ports n = record { config = rustDefault; ports = n; chargers = 0 }
 
 -- as a call brings them: 16 places for ports and 8 for chargers, those past the registered ones filled as the reader fills them
 abbrev pub rows : List State → Records
-rows l = record { psus = l ++ replicate (16 - length l) psuDefault; chargers = replicate 8 chargerDefault }
+rows l = record { psus = l ++ replicate (maxPorts - length l) psuDefault; chargers = replicate maxChargers chargerDefault }
 
 -- no consumer, nothing unconstrained, and the ports of these bits tracked
 abbrev pub tracking : ℕ → PowerState → InternalState

@@ -5,6 +5,7 @@ use Prim.Native.Nat.{ℕ, zero, suc, min}
 use mathlib.Core.Bool.{Bool, true, false, cond, _&&_}
 use mathlib.Core.List.{[]}
 use lib.Dec.{eqb}
+use Rattle.power_policy_interface.specs.Limits.{maxPorts}
 use Rattle.power_policy_interface.specs.Psu.{canConnectConsumerOf, canConnectProviderOf}
 use Rattle.power_policy_interface.specs.Service.{sameUnconstrained}
 use Rattle.power_policy_interface.specs.Capability.{sameConsumer}
@@ -148,7 +149,7 @@ connectBest g OptionAvailableConsumer.None (OptionAvailableConsumer.Some current
 
 abbrev pub findBestConsumer : Registration → InternalState → Records → OptionAvailableConsumer
 findBestConsumer g s r =
-    bestOf (g .config .«min_consumer_threshold_mw») (s .«current_consumer_state») (r .psus) (min 16 (g .ports))
+    bestOf (g .config .«min_consumer_threshold_mw») (s .«current_consumer_state») (r .psus) (min maxPorts (g .ports))
 
 unfoldable pub updateCurrentConsumer : Registration → DisconnectFlags → Action (Unit {0})
 updateCurrentConsumer g flags = do
@@ -169,7 +170,7 @@ unfoldable pub provide : Registration → ℕ → OptionProviderPowerCapability 
 provide g requester OptionProviderPowerCapability.None = skip
 provide g requester (OptionProviderPowerCapability.Some requested) = do
   r ← records
-  let power = powerStateOf (g .config) (totalWith requester requested (r .psus) (min 16 (g .ports)))
+  let power = powerStateOf (g .config) (totalWith requester requested (r .psus) (min maxPorts (g .ports)))
   let target = grantOf (g .config) power requested
   set (withPowerState power)
   ok (canConnectProviderOf (psuOf r requester))
@@ -186,7 +187,7 @@ removeProvider g port removed =
     when (removed .found) (do
       r ← records
       set (withProviders (removed .providers))
-      set (withPowerState (powerStateOf (g .config) (totalOf (r .psus) (min 16 (g .ports)))))
+      set (withPowerState (powerStateOf (g .config) (totalOf (r .psus) (min maxPorts (g .ports)))))
       notify (Event.ProviderDisconnected port))
 
 unfoldable pub postProviderRemoved : Registration → ℕ → Action (Unit {0})

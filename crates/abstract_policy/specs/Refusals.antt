@@ -6,6 +6,7 @@ use mathlib.Core.List.{List, [], _∷_}
 use mathlib.Core.Logic.{_⊎_}
 use mathlib.Core.Path.{_≡_}
 use lib.Dec.{ltb, leb, eqb}
+use Rattle.power_policy_interface.specs.Limits.{largest, maxPorts, maxChargers}
 use Rattle.power_policy_service.specs.declared.config.OptionConfig.{OptionConfig}
 use Rattle.abstract_policy.specs.declared.order.OptionOrder.{OptionOrder}
 use Rattle.abstract_policy.specs.declared.order.Order.{Order}
@@ -68,7 +69,7 @@ overType (OptionConfig.Some c) = false
 
 -- over 16 ports or 8 chargers, or no configuration
 abbrev pub overRegistered : OptionConfig → ℕ → ℕ → Bool
-overRegistered config ports chargers = ltb 16 ports || (ltb 8 chargers || overType config)
+overRegistered config ports chargers = ltb maxPorts ports || (ltb maxChargers chargers || overType config)
 
 abbrev pub startRefusals : OptionConfig → ℕ → ℕ → List (Bool × ℕ)
 startRefusals config ports chargers = (overRegistered config ports chargers, 20) ∷ []
@@ -90,7 +91,7 @@ waiting (OptionOrder.Some o) = true
 
 -- PSU event after number 4,294,967,295; a charger's has no number
 abbrev pub numbersUsed : ℕ → ℕ → Bool
-numbersUsed kind number = not (eqb kind 5) && eqb number 4294967295
+numbersUsed kind number = not (eqb kind 5) && eqb number largest
 
 -- 25: an event is open
 abbrev pub openConditions : ℕ → ℕ → Bool → ℕ → ℕ → ℕ → ℕ → List (Bool × ℕ)

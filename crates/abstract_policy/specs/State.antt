@@ -2,6 +2,7 @@
 use Prim.Native.Nat.{ℕ}
 use mathlib.Core.Bool.{Bool, true, false, cond}
 use lib.Dec.{ltb}
+use Rattle.power_policy_interface.specs.Limits.{maxPorts, maxChargers}
 use Rattle.power_policy_interface.specs.Charger.{isUnpowered}
 use Rattle.power_policy_interface.specs.declared.psu.State.{State}
 use Rattle.power_policy_interface.specs.declared.service.UnconstrainedState.{UnconstrainedState}
@@ -41,7 +42,7 @@ displayOf s =
 -- the records: no port is past the sixteen, and no charger past the eight, since a start registers no more
 
 abbrev pub psuOf : Records → ℕ → State
-psuOf r p = cond (ltb p 16) (psuAt (r .psus) p) noPsu
+psuOf r p = cond (ltb p maxPorts) (psuAt (r .psus) p) noPsu
 
 abbrev pub chargerUnpowered : Records → ℕ → Bool
-chargerUnpowered r i = cond (ltb i 8) (isUnpowered (chargerAt (r .chargers) i .state)) true
+chargerUnpowered r i = cond (ltb i maxChargers) (isUnpowered (chargerAt (r .chargers) i .state)) true

@@ -5,6 +5,8 @@ use display::providers::Providers;
 use power_policy_interface::capability::OptionConsumerPowerCapability;
 use power_policy_interface::capability::OptionProviderPowerCapability;
 use power_policy_interface::charger;
+use power_policy_interface::limits::MAX_CHARGERS;
+use power_policy_interface::limits::MAX_PORTS;
 use power_policy_interface::psu;
 use power_policy_interface::service::UnconstrainedState;
 use power_policy_service::config::Config;
@@ -21,8 +23,8 @@ pub struct Registration {
 
 // The present records of all ports and chargers.
 pub struct Records {
-    pub psus: [psu::State; 16],
-    pub chargers: [charger::State; 8],
+    pub psus: [psu::State; MAX_PORTS as usize],
+    pub chargers: [charger::State; MAX_CHARGERS as usize],
 }
 
 // The state of the service.
@@ -130,7 +132,7 @@ impl Records {
         ensures { λ r. ⌜ r ≡ psuOf self port ⌝ }
     {
         let psus = self.psus;
-        if port < 16 {
+        if port < MAX_PORTS {
             return psus[port as usize];
         }
         psu::State {
@@ -145,7 +147,7 @@ impl Records {
         ensures { λ r. ⌜ r ≡ chargerUnpowered self charger ⌝ }
     {
         let chargers = self.chargers;
-        if charger < 8 {
+        if charger < MAX_CHARGERS {
             let c = chargers[charger as usize];
             return c.is_unpowered();
         }

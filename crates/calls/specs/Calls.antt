@@ -4,6 +4,7 @@ use mathlib.Core.Bool.{cond}
 use mathlib.Core.List.{List}
 use lib.Dec.{eqb}
 use lib.ListN.{length}
+use Rattle.power_policy_interface.specs.Limits.{serviceLength, followerLength}
 use Rattle.display.specs.declared.State.{State}
 use Rattle.power_policy_service.specs.declared.config.OptionConfig.{OptionConfig}
 use Rattle.abstract_policy.specs.declared.state.Records.{Records}
@@ -34,14 +35,14 @@ use Rattle.follower_image.specs.declared.ReadFollower.{ReadFollower}
 
 abbrev pub startedCall : List ℕ → Started → Called
 startedCall image (Started.Refused n) = refusedCall n image
-startedCall image (Started.Service s) = cond (eqb (length image) 67) (called doneNumber (serviceBytes s)) (refusedCall 21 image)
+startedCall image (Started.Service s) = cond (eqb (length image) serviceLength) (called doneNumber (serviceBytes s)) (refusedCall 21 image)
 
 abbrev pub startCall : List ℕ → OptionConfig → ℕ → ℕ → Called
 startCall image config ports chargers = startedCall image (startOf config ports chargers)
 
 -- the image of a service in bytes of its length; others stay
 abbrev pub putService : List ℕ → Service → List ℕ
-putService image s = cond (eqb (length image) 67) (serviceBytes s) image
+putService image s = cond (eqb (length image) serviceLength) (serviceBytes s) image
 
 -- open and answer: 21, then 22 for records of another length or with a field out of range, then what turns the service's call back
 
@@ -92,10 +93,10 @@ writePictureCall (ReadService.Read s) buffer = pictureCall (sendPicture s) buffe
 
 -- the image of a follower in bytes of its length; others stay
 abbrev pub putFollower : List ℕ → Follower → List ℕ
-putFollower image f = cond (eqb (length image) 241) (followerBytes f) image
+putFollower image f = cond (eqb (length image) followerLength) (followerBytes f) image
 
 abbrev pub followerStartCall : List ℕ → Called
-followerStartCall image = cond (eqb (length image) 241) (called doneNumber (followerBytes fresh)) (refusedCall 21 image)
+followerStartCall image = cond (eqb (length image) followerLength) (called doneNumber (followerBytes fresh)) (refusedCall 21 image)
 
 abbrev pub takenCall : List ℕ → Follower → ReadPacket → Called
 takenCall image f (ReadPacket.Refused n) = refusedCall n image

@@ -4,6 +4,7 @@ use mathlib.Core.Bool.{Bool, true, false, _&&_}
 use mathlib.Core.List.{List, [], _∷_}
 use lib.Dec.{eqb, leb}
 use lib.ListN.{length, take, drop}
+use Rattle.power_policy_interface.specs.Limits.{maxNotices}
 use Rattle.power_policy_interface.specs.Capability.{disconnectByte}
 use Rattle.power_policy_interface.specs.declared.capability.OptionDisconnectReason.{OptionDisconnectReason}
 use Rattle.power_policy_interface.specs.declared.service.event.Event.{Event}
@@ -61,4 +62,4 @@ allFiller [] = true
 allFiller (e ∷ l) = isFiller e && allFiller l
 
 abbrev pub padded : Notices → Bool
-padded n = leb (n .count) 4 && allFiller (drop (n .count) (places n))
+padded n = leb (n .count) maxNotices && allFiller (drop (n .count) (places n))

@@ -5,6 +5,7 @@ use Prim.Native.Nat.{ℕ, zero, suc, _+_, _/_, _%_, _^_}
 use mathlib.Core.Bool.{Bool, true, false, cond, _&&_}
 use lib.Bits.{bitOr, bitXor}
 use lib.Dec.{ltb, eqb}
+use Rattle.power_policy_interface.specs.Limits.{maxPorts}
 use Rattle.display.specs.declared.providers.Providers.{Providers}
 use Rattle.display.specs.declared.providers.Insert.{Insert}
 use Rattle.display.specs.declared.providers.Inserted.{Inserted}
@@ -21,7 +22,7 @@ abbrev pub bitAt : ℕ → ℕ → ℕ
 bitAt m p = m / 2 ^ p % 2
 
 abbrev pub contains : Providers → ℕ → Bool
-contains s p = ltb p 16 && eqb (bitAt (s .mask) p) 1
+contains s p = ltb p maxPorts && eqb (bitAt (s .mask) p) 1
 
 -- how many of the first n bits are set
 abbrev pub ones : ℕ → ℕ → ℕ
@@ -29,11 +30,11 @@ ones m zero = 0
 ones m (suc n) = ones m n + bitAt m n
 
 abbrev pub len : Providers → ℕ
-len s = ones (s .mask) 16
+len s = ones (s .mask) maxPorts
 
 -- there is room for a new port: it is one of the 16, and fewer than the capacity are there
 abbrev pub room : Providers → ℕ → Bool
-room s p = ltb p 16 && ltb (len s) maxConnectedProviders
+room s p = ltb p maxPorts && ltb (len s) maxConnectedProviders
 
 abbrev pub insertOf : Providers → ℕ → Inserted
 insertOf s p =

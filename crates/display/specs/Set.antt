@@ -5,6 +5,7 @@ use mathlib.Core.Bool.{true, false, cond, not, _&&_, _||_}
 use mathlib.Core.Logic.{_↔_}
 use mathlib.Core.Path.{_≡_}
 use lib.Dec.{eqb}
+use Rattle.power_policy_interface.specs.Limits.{maxPorts}
 use Rattle.display.specs.Providers.{maxConnectedProviders, none, contains, len, room, insertOf, removeOf}
 use Rattle.display.specs.declared.providers.Insert.{Insert}
 use Rattle.display.specs.declared.providers.Providers.{Providers}
@@ -22,7 +23,7 @@ pub record SetLaws : Type 0 where
   pub none-there : (q : ℕ) → contains none q ≡ false
   pub none-length : len none ≡ 0
   -- there is room for a port while fewer than the capacity are there
-  pub room-is : (s : Providers) (p : ℕ) → (room s p ≡ true) ↔ ((p < 16) × (len s < maxConnectedProviders))
+  pub room-is : (s : Providers) (p : ℕ) → (room s p ≡ true) ↔ ((p < maxPorts) × (len s < maxConnectedProviders))
   -- a value that is there is found, also in a full set, and nothing changes
   pub present : (s : Providers) (p : ℕ) → contains s p ≡ true → insertOf s p ≡ record { found = Insert.Present; providers = s }
   -- a new value is added if there is room
@@ -41,4 +42,4 @@ pub record SetLaws : Type 0 where
   -- one less if it was there, else as many
   pub remove-length : (s : Providers) (p : ℕ) → len s ≡ len (removeOf s p .providers) + cond (removeOf s p .found) 1 0
   -- a removal from a set within its capacity, also a full one, makes room, for any port
-  pub makes-room : (s : Providers) (p q : ℕ) → len s ≤ maxConnectedProviders → contains s p ≡ true → q < 16 → room (removeOf s p .providers) q ≡ true
+  pub makes-room : (s : Providers) (p q : ℕ) → len s ≤ maxConnectedProviders → contains s p ≡ true → q < maxPorts → room (removeOf s p .providers) q ≡ true

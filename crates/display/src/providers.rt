@@ -1,9 +1,13 @@
 // The tracked providers: a set of ports of fixed capacity (heapless::index_set::FnvIndexSet of four).
+use power_policy_interface::limits::MAX_PORTS;
 ghost use mathlib.Core.Path.{_≡_};
 ghost use Rattle.display.specs.Providers.{none, contains, len, insertOf, removeOf};
 
 // The most that are tracked at a time.
 pub const MAX_CONNECTED_PROVIDERS: u16 = 4;
+
+// A set has a bit for each port.
+const PORTS: u16 = MAX_PORTS as u16;
 
 // A bit for each port, built and tested by shifts; at most four are set.
 pub struct Providers {
@@ -42,7 +46,7 @@ impl Providers {
     pub fn contains(self, port: u8) -> bool
         ensures { λ r. ⌜ r ≡ contains self port ⌝ }
     {
-        if port < 16 {
+        if port < MAX_PORTS {
             return self.mask >> port & 1 == 1;
         }
         false
@@ -55,7 +59,7 @@ impl Providers {
         let mask = self.mask;
         let mut n: u16 = 0;
         let mut i: u16 = 0;
-        while i < 16 {
+        while i < PORTS {
             n += mask >> i & 1;
             i += 1;
         }
@@ -72,7 +76,7 @@ impl Providers {
                 providers: self,
             };
         }
-        if 16 <= port {
+        if MAX_PORTS <= port {
             return Inserted {
                 found: Insert::Full,
                 providers: self,
@@ -96,7 +100,7 @@ impl Providers {
     pub fn remove(self, port: u8) -> Removed
         ensures { λ r. ⌜ r ≡ removeOf self port ⌝ }
     {
-        if 16 <= port {
+        if MAX_PORTS <= port {
             return Removed {
                 found: false,
                 providers: self,

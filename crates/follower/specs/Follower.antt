@@ -2,6 +2,7 @@
 use Prim.Native.Nat.{ℕ, zero, suc, _+_, max}
 use mathlib.Core.Bool.{Bool, cond}
 use lib.Dec.{eqb, leb, ltb}
+use Rattle.power_policy_interface.specs.Limits.{window}
 use Rattle.power_policy_interface.specs.Capability.{maxPowerMw}
 use Rattle.display.specs.Notices.{allApplied}
 use Rattle.display.specs.declared.Display.{Display}
@@ -44,18 +45,18 @@ inTurn (suc k) floor n d h =
 
 -- there are eight places; the floor on becoming lost is the greatest number met (proofs/Floor.antt)
 abbrev pub settled : Picture → Held → Follower
-settled s h = inTurn 8 (greatest (s .number) 8 h) (s .number) (s .display) h
+settled s h = inTurn window (greatest (s .number) window h) (s .number) (s .display) h
 
 -- showing n: numbered n or less, dropped; beyond n + 8, lost; n + 1 to n + 8, held (of equal numbers the first) and applied in turn
 abbrev pub takenEvent : Picture → Held → EventPacket → Follower
 takenEvent s h e =
     cond (leb (e .number) (s .number)) (showing s h)
-    (cond (ltb (s .number + 8) (e .number)) (lost (greatest (e .number) 8 h))
+    (cond (ltb (s .number + window) (e .number)) (lost (greatest (e .number) window h))
     (cond (holds h (e .number)) (showing s h) (settled s (placed h e))))
 
 -- a picture above n replaces the display; held packets above it stay and follow in turn
 abbrev pub takenPicture : Picture → Held → Picture → Follower
-takenPicture s h p = cond (leb (p .number) (s .number)) (showing s h) (settled p (above (p .number) 8 h))
+takenPicture s h p = cond (leb (p .number) (s .number)) (showing s h) (settled p (above (p .number) window h))
 
 -- lost, it raises the floor to each event number it meets, and accepts only a picture whose number is at least the floor
 abbrev pub takenAt : Shown → Held → Packet → Follower
@@ -83,7 +84,7 @@ mwIn (OptionAvailableConsumer.Some c) = OptionNumber.Some (maxPowerMw (c .«cons
 
 -- lost, or else, showing n, level or waiting (something held)
 abbrev pub stateOf : Follower → State
-stateOf f = stateAt (f .shown) (noneHeld 8 (f .held))
+stateOf f = stateAt (f .shown) (noneHeld window (f .held))
 
 abbrev pub numberOf : Shown → OptionNumber
 numberOf (Shown.Lost floor) = OptionNumber.None

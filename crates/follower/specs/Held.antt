@@ -1,8 +1,9 @@
--- The packets that wait for their turn, in eight places: event m has place m % 8. Number 0 says that no packet is there.
+-- The packets that wait for their turn, in eight places: event m has place m % window. Number 0 says that no packet is there.
 use Prim.Native.Nat.{ℕ, zero, suc, _%_, max}
 use mathlib.Core.Bool.{Bool, true, cond, _&&_}
 use lib.Dec.{eqb, leb}
 use lib.ListN.{getD, set, replicate}
+use Rattle.power_policy_interface.specs.Limits.{window}
 use Rattle.display.specs.Notices.{empty}
 use Rattle.display.specs.declared.packet.EventPacket.{EventPacket}
 use Rattle.follower.specs.declared.held.Held.{Held}
@@ -11,7 +12,7 @@ abbrev pub none : EventPacket
 none = record { number = 0; answer = 0; orders = 0; notices = empty }
 
 abbrev pub nothing : Held
-nothing = record { packets = replicate 8 none }
+nothing = record { packets = replicate window none }
 
 abbrev pub packetAt : Held → ℕ → EventPacket
 packetAt h i = getD (h .packets) i none
@@ -21,16 +22,16 @@ put h i p = record { packets = set (h .packets) i p }
 
 -- what is at the place of event m, and whether it is that event's packet
 abbrev pub heldFor : Held → ℕ → EventPacket
-heldFor h m = packetAt h (m % 8)
+heldFor h m = packetAt h (m % window)
 
 abbrev pub holds : Held → ℕ → Bool
 holds h m = eqb (heldFor h m .number) m
 
 abbrev pub placed : Held → EventPacket → Held
-placed h p = put h (p .number % 8) p
+placed h p = put h (p .number % window) p
 
 abbrev pub dropped : Held → ℕ → Held
-dropped h m = put h (m % 8) none
+dropped h m = put h (m % window) none
 
 -- none is held in the first k places
 unfoldable pub noneHeld : ℕ → Held → Bool

@@ -5,7 +5,7 @@ use mathlib.Core.Path.{_≡_}
 use mathlib.Core.Logic.{_⊎_}
 use lib.Dec.{eqb, leb}
 use lib.ListN.{length}
-use Rattle.power_policy_interface.specs.Limits.{largest}
+use Rattle.power_policy_interface.specs.Limits.{largest, window}
 use Rattle.display.specs.Notices.{padded}
 use Rattle.display.specs.declared.notices.Notices.{Notices}
 use Rattle.display.specs.declared.packet.EventPacket.{EventPacket}
@@ -19,15 +19,15 @@ use Rattle.follower.specs.Held.{none, nothing, packetAt}
 abbrev pub InPlace : ℕ → ℕ → ℕ → EventPacket → Type 0
 InPlace lo hi i p =
     (p ≡ none)
-    ⊎ ((lo ≤ p .number) × (p .number ≤ hi) × (p .number ≤ largest) × (p .number % 8 ≡ i) × (padded (p .notices) ≡ true))
+    ⊎ ((lo ≤ p .number) × (p .number ≤ hi) × (p .number ≤ largest) × (p .number % window ≡ i) × (padded (p .notices) ≡ true))
 
 abbrev pub Within : ℕ → ℕ → Held → Type 0
-Within lo hi h = (length (h .packets) ≡ 8) × ((i : ℕ) → i < 8 → InPlace lo hi i (packetAt h i))
+Within lo hi h = (length (h .packets) ≡ window) × ((i : ℕ) → i < window → InPlace lo hi i (packetAt h i))
 
 -- lost, nothing is held; showing n, what is held are packets of the events n + 2 to n + 8
 abbrev pub WellFormedAt : Shown → Held → Type 0
 WellFormedAt (Shown.Lost floor) h = (floor ≤ largest) × (h ≡ nothing)
-WellFormedAt (Shown.Picture s) h = (s .number ≤ largest) × Within (s .number + 2) (s .number + 8) h
+WellFormedAt (Shown.Picture s) h = (s .number ≤ largest) × Within (s .number + 2) (s .number + window) h
 
 abbrev pub WellFormed : Follower → Type 0
 WellFormed f = WellFormedAt (f .shown) (f .held)
@@ -47,7 +47,7 @@ isNone p = eqb (p .number) 0 && (eqb (p .answer) 0 && (eqb (p .orders) 0 && noNo
 abbrev pub inPlace : ℕ → ℕ → ℕ → EventPacket → Bool
 inPlace lo hi i p =
     isNone p
-    || (leb lo (p .number) && (leb (p .number) hi && (leb (p .number) largest && (eqb (p .number % 8) i && padded (p .notices)))))
+    || (leb lo (p .number) && (leb (p .number) hi && (leb (p .number) largest && (eqb (p .number % window) i && padded (p .notices)))))
 
 -- a test holds at each of the first k places
 unfoldable pub allPlaces : (ℕ → EventPacket → Bool) → ℕ → Held → Bool
@@ -55,9 +55,9 @@ allPlaces t zero h = true
 allPlaces t (suc k) h = allPlaces t k h && t k (packetAt h k)
 
 abbrev pub wellFormedAt : Shown → Held → Bool
-wellFormedAt (Shown.Lost floor) h = leb floor largest && (eqb (length (h .packets)) 8 && allPlaces (λ i p. isNone p) 8 h)
+wellFormedAt (Shown.Lost floor) h = leb floor largest && (eqb (length (h .packets)) window && allPlaces (λ i p. isNone p) window h)
 wellFormedAt (Shown.Picture s) h =
-    leb (s .number) largest && (eqb (length (h .packets)) 8 && allPlaces (inPlace (s .number + 2) (s .number + 8)) 8 h)
+    leb (s .number) largest && (eqb (length (h .packets)) window && allPlaces (inPlace (s .number + 2) (s .number + window)) window h)
 
 abbrev pub wellFormed : Follower → Bool
 wellFormed f = wellFormedAt (f .shown) (f .held)

@@ -1,13 +1,18 @@
 // The event packets that wait for their turn. Event m has place m % 8, so the eight events after the one shown have a place each.
 use display::notices::Notices;
 use display::packet::EventPacket;
+use power_policy_interface::limits::WINDOW;
 ghost use mathlib.Core.Path.{_≡_};
 ghost use Prim.Native.Nat.{max};
+ghost use Rattle.power_policy_interface.specs.Limits.{window};
 ghost use Rattle.follower.specs.Held.{none, nothing, noneHeld, greatest, above};
+
+// One for each event of the window.
+const PLACES: usize = WINDOW as usize;
 
 // Eight places; number 0 says that none is held there (events are numbered from 1).
 pub struct Held {
-    pub packets: [EventPacket; 8],
+    pub packets: [EventPacket; PLACES],
 }
 
 // No packet.
@@ -37,17 +42,17 @@ impl Held {
     pub fn new() -> Self
         ensures { λ r. ⌜ r ≡ nothing ⌝ }
     {
-        let packets = [no_packet(); 8];
+        let packets = [no_packet(); PLACES];
         Held { packets }
     }
 
     // Whether nothing is held.
     pub fn is_empty(self) -> bool
-        ensures { λ r. ⌜ r ≡ noneHeld 8 self ⌝ }
+        ensures { λ r. ⌜ r ≡ noneHeld window self ⌝ }
     {
         let packets = self.packets;
         let mut i: usize = 0;
-        while i < 8 {
+        while i < PLACES {
             if packets[i].number != 0 {
                 return false;
             }
@@ -58,12 +63,12 @@ impl Held {
 
     // The greatest of a number and the numbers of the packets held.
     pub fn greatest(self, number: u32) -> u32
-        ensures { λ r. ⌜ r ≡ greatest number 8 self ⌝ }
+        ensures { λ r. ⌜ r ≡ greatest number window self ⌝ }
     {
         let packets = self.packets;
         let mut most = number;
         let mut i: usize = 0;
-        while i < 8 {
+        while i < PLACES {
             most = greater(packets[i].number, most);
             i += 1;
         }
@@ -72,11 +77,11 @@ impl Held {
 
     // The packets numbered above a number; the others are dropped.
     pub fn above(self, number: u32) -> Held
-        ensures { λ r. ⌜ r ≡ above number 8 self ⌝ }
+        ensures { λ r. ⌜ r ≡ above number window self ⌝ }
     {
         let mut packets = self.packets;
         let mut i: usize = 0;
-        while i < 8 {
+        while i < PLACES {
             if packets[i].number <= number {
                 packets[i] = no_packet();
             }

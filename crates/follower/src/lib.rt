@@ -10,7 +10,9 @@ use display::State;
 use display::packet::EventPacket;
 use display::packet::Packet;
 use display::packet::Picture;
+use power_policy_interface::limits::WINDOW;
 ghost use mathlib.Core.Path.{_≡_};
+ghost use Rattle.power_policy_interface.specs.Limits.{window};
 ghost use Rattle.display.specs.Notices.{allApplied};
 ghost use Rattle.follower.specs.Follower.{lost, showing, fresh, inTurn, settled, takenEvent, takenPicture, takenAt, taken, stateOf, numberOf, shownDisplay, consumerOf, portOf, mwOf};
 
@@ -68,14 +70,14 @@ fn applied(p: EventPacket, d: Display) -> Display
 
 // The held packets applied in turn as long as the next number is held; one with an error makes it lost, with the floor.
 fn in_turn(floor: u32, number: u32, display: Display, held: Held) -> Follower
-    ensures { λ r. ⌜ r ≡ inTurn 8 floor number display held ⌝ }
+    ensures { λ r. ⌜ r ≡ inTurn window floor number display held ⌝ }
 {
     let mut n = number;
     let mut d = display;
     let mut packets = held.packets;
     let mut i: u32 = 0;
-    while i < 8 {
-        let place = ((n % 8 + 1) % 8) as usize;
+    while i < WINDOW {
+        let place = ((n % WINDOW + 1) % WINDOW) as usize;
         let mut p = packets[place];
         if p.number <= n {
             break;
@@ -120,11 +122,11 @@ fn take_event(shown: Picture, held: Held, e: EventPacket) -> Follower
     if number <= n {
         return show(shown, held);
     }
-    if 8 < number - n {
+    if WINDOW < number - n {
         return lose(held.greatest(number));
     }
     let mut packets = held.packets;
-    let place = (number % 8) as usize;
+    let place = (number % WINDOW) as usize;
     if packets[place].number == number {
         return show(shown, held);
     }

@@ -8,6 +8,7 @@ use Prim.Native.Nat.{ℕ}
 use native.Mathlib.Omega.{arith}
 use lib.Dec.{eqb}
 use lib.ListN.{length, getD}
+use Rattle.power_policy_interface.specs.Limits.{followerLength}
 use Rattle.display.specs.declared.packet.Packet.{Packet}
 use Rattle.display.specs.declared.packet.Picture.{Picture}
 use Rattle.wire.specs.Read.{readPacket}
@@ -59,8 +60,8 @@ module _ (b x : List ℕ) where
       record { number = q .0; bytes = q .1 }
 
   -- an image has its length
-  ok-length : followerFrom b .ok ≡ true → eqb (length b) 241 ≡ true
-  ok-length e = by (eqb (length b) 241) e
+  ok-length : followerFrom b .ok ≡ true → eqb (length b) followerLength ≡ true
+  ok-length e = by (eqb (length b) followerLength) e
     where
       by : (t : Bool) → followerRead (cond (t && eqb (getD b 0 0) 2) (getD (followerCases b) (getD b 1 0) none) none) .ok ≡ true → t ≡ true
       by true q = refl

@@ -5,6 +5,7 @@ use display::packet::Packet;
 use display::providers::Providers;
 use follower_image::ReadShown;
 use follower_image::read_shown;
+use power_policy_interface::limits::FOLLOWER_IMAGE;
 use wire::packet::ReadPacket;
 ghost use mathlib.Core.Path.{_≡_};
 ghost use Rattle.abstract_calls.specs.Numbers.{refusedNumber, doneNumber};
@@ -17,7 +18,7 @@ pub fn start(image: &mut [u8]) -> u64
     ensures { λ r. ⌜ r ≡ followerStartCall (now (image .entry)) .number ⌝ }
     ensures { λ _. ⌜ now (image .exit) ≡ followerStartCall (now (image .entry)) .bytes ⌝ }
 {
-    if image.len() == 241 {
+    if image.len() == FOLLOWER_IMAGE {
         follower_image::write_lost(image, 0);
         return numbers::done();
     }

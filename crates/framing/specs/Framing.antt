@@ -4,6 +4,7 @@ use mathlib.Core.Bool.{cond}
 use mathlib.Core.List.{List}
 use lib.Dec.{eqb, leb, ltb}
 use lib.ListN.{length}
+use Rattle.power_policy_interface.specs.Limits.{bufferLength}
 use Rattle.wire.specs.Number.{readNumber}
 use Rattle.wire.specs.declared.number.ReadNumber.{ReadNumber}
 use Rattle.framing.specs.declared.Framed.{Framed}
@@ -12,7 +13,7 @@ use Rattle.framing.specs.declared.Framed.{Framed}
 abbrev pub sized : ℕ → ℕ → ℕ → Framed
 sized have used n =
     cond (eqb n 0) (Framed.Refused 32)
-    (cond (ltb 64 n) (Framed.Refused 32)
+    (cond (ltb bufferLength n) (Framed.Refused 32)
     (cond (leb (used + n) have) (Framed.Frame used n) Framed.Cut))
 
 -- by the length that is read

@@ -1,8 +1,12 @@
 // Packets in a stream: length# (1 to 64), packet, repeated (document 01, program `follow`).
+use power_policy_interface::limits::BUFFER;
 use wire::number;
 use wire::number::ReadNumber;
 ghost use mathlib.Core.Path.{_≡_};
 ghost use Rattle.framing.specs.Framing.{framed, sized};
+
+// A packet is no longer than this.
+const LONGEST: u32 = BUFFER as u32;
 
 // What stands at the front of the bytes.
 pub enum Framed {
@@ -23,7 +27,7 @@ fn of_length(have: usize, used: usize, n: u32) -> Framed
     if n == 0 {
         return Framed::Refused(32);
     }
-    if 64 < n {
+    if LONGEST < n {
         return Framed::Refused(32);
     }
     if have < used {

@@ -6,6 +6,7 @@ use mathlib.Core.List.{List, [], _∷_, _++_}
 use mathlib.Core.Logic.{_↔_}
 use mathlib.Core.Option.{none, some}
 use mathlib.Core.Path.{_≡_}
+use Rattle.power_policy_interface.specs.Limits.{window}
 use Rattle.display.specs.declared.Display.{Display}
 use Rattle.display.specs.declared.packet.EventPacket.{EventPacket}
 use Rattle.display.specs.declared.packet.Packet.{Packet}
@@ -59,4 +60,4 @@ pub record Alike : Type 0 where
   -- what waits are packets of the events n + 2 to n + 8, in rising order
   pub rising :
       (l : List (List ℕ)) → EachBytes l → (n : ℕ) (d : Display) (held : List EventPacket) → paperAfter l ≡ paper.showing n d held →
-      Rising (n + 2) (n + 8) held
+      Rising (n + 2) (n + window) held

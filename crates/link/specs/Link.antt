@@ -3,6 +3,7 @@ use Prim.Native.Nat.{ℕ, _+_, _≤_, _<_}
 use mathlib.Core.List.{List, [], _∷_, _++_}
 use mathlib.Core.Logic.{_⊎_}
 use mathlib.Core.Path.{_≡_}
+use Rattle.power_policy_interface.specs.Limits.{window}
 use Rattle.display.specs.declared.Display.{Display}
 use Rattle.display.specs.declared.packet.EventPacket.{EventPacket}
 use Rattle.display.specs.declared.packet.Packet.{Packet}
@@ -36,10 +37,10 @@ pub record Demand3 (source : Source) : Type 0 where
   pub fresh-lost : FollowerLost (followerAfter [])
   -- the follower says lost, or shows the n of an event that has closed (0: the start), with exactly what was held there
   pub a : (l : List (List ℕ)) → AllCarried source l → FollowerLost (followerAfter l) ⊎ ((n : ℕ) × source .Closed n × FollowerShows (followerAfter l) n (source .held n))
-  -- if it shows n and then each event packet n + 1 to n + k comes, in any order, k ≤ 8, all without error, and nothing above n + k is
+  -- if it shows n and then each event packet n + 1 to n + k comes, in any order, k ≤ window, all without error, and nothing above n + k is
   -- anywhere among the takes, it shows n + k
   pub b :
-      (before later : List (List ℕ)) (n k : ℕ) (d : Display) → AllCarried source (before ++ later) → FollowerShows (followerAfter before) n d → k ≤ 8 →
+      (before later : List (List ℕ)) (n k : ℕ) (d : Display) → AllCarried source (before ++ later) → FollowerShows (followerAfter before) n d → k ≤ window →
       EventsCome n k later → NoneAbove (n + k) (before ++ later) →
       FollowerShows (followerAfter (before ++ later)) (n + k) (source .held (n + k))
   -- lost, it shows a picture exactly when that is numbered no lower than every event packet met before

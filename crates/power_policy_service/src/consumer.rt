@@ -5,9 +5,11 @@ use display::OptionAvailableConsumer;
 use power_policy_interface::capability::ConsumerPowerCapability;
 use power_policy_interface::capability::OptionConsumerPowerCapability;
 use power_policy_interface::capability::Ordering;
+use power_policy_interface::limits::MAX_PORTS;
 use power_policy_interface::psu;
 ghost use mathlib.Core.Path.{_≡_};
 ghost use Prim.Native.Nat.{min};
+ghost use Rattle.power_policy_interface.specs.Limits.{maxPorts};
 ghost use Rattle.power_policy_interface.specs.Order.{cmpBool};
 ghost use Rattle.power_policy_service.specs.Consumer.{cmpConsumer, meets, eligible, isCurrent, betterOf, bestOf};
 
@@ -119,15 +121,15 @@ pub fn better(
 pub fn find_best_consumer_default(
     minimum: OptionMilliwatts,
     current: OptionAvailableConsumer,
-    psus: [psu::State; 16],
+    psus: [psu::State; MAX_PORTS as usize],
     ports: u8,
 ) -> OptionAvailableConsumer
-    ensures { λ r. ⌜ r ≡ bestOf minimum current psus (min 16 ports) ⌝ }
+    ensures { λ r. ⌜ r ≡ bestOf minimum current psus (min maxPorts ports) ⌝ }
 {
     let mut best = OptionAvailableConsumer::None;
     let mut i: u8 = 0;
     while i < ports {
-        if 16 <= i {
+        if MAX_PORTS <= i {
             return best;
         }
         let psu = psus[i as usize];

@@ -3,9 +3,11 @@
 use crate::config::Config;
 use power_policy_interface::capability::OptionProviderPowerCapability;
 use power_policy_interface::capability::ProviderPowerCapability;
+use power_policy_interface::limits::MAX_PORTS;
 use power_policy_interface::psu;
 ghost use mathlib.Core.Path.{_≡_};
 ghost use Prim.Native.Nat.{min};
+ghost use Rattle.power_policy_interface.specs.Limits.{maxPorts};
 ghost use Rattle.power_policy_service.specs.Provider.{providedMw, connectedMw, totalOf, requestedMw, totalWith, powerStateOf, grantOf};
 
 // Current system provider power state.
@@ -47,13 +49,13 @@ fn target_mw(s: psu::State, port: u8, requester: u8, request: ProviderPowerCapab
 }
 
 // The total amount of power that is being supplied to external devices. In 64 bits no sum of 16 figures can overflow.
-pub fn compute_total_provider_power_mw(psus: [psu::State; 16], ports: u8) -> u64
-    ensures { λ r. ⌜ r ≡ totalOf psus (min 16 ports) ⌝ }
+pub fn compute_total_provider_power_mw(psus: [psu::State; MAX_PORTS as usize], ports: u8) -> u64
+    ensures { λ r. ⌜ r ≡ totalOf psus (min maxPorts ports) ⌝ }
 {
     let mut total: u64 = 0;
     let mut i: u8 = 0;
     while i < ports {
-        if 16 <= i {
+        if MAX_PORTS <= i {
             return total;
         }
         let psu = psus[i as usize];
@@ -65,17 +67,17 @@ pub fn compute_total_provider_power_mw(psus: [psu::State; 16], ports: u8) -> u64
 
 // The same with the requester's request in the place of its contract.
 pub fn total_with_request(
-    psus: [psu::State; 16],
+    psus: [psu::State; MAX_PORTS as usize],
     ports: u8,
     requester: u8,
     request: ProviderPowerCapability,
 ) -> u64
-    ensures { λ r. ⌜ r ≡ totalWith requester request psus (min 16 ports) ⌝ }
+    ensures { λ r. ⌜ r ≡ totalWith requester request psus (min maxPorts ports) ⌝ }
 {
     let mut total: u64 = 0;
     let mut i: u8 = 0;
     while i < ports {
-        if 16 <= i {
+        if MAX_PORTS <= i {
             return total;
         }
         let psu = psus[i as usize];

@@ -3,6 +3,7 @@
 use Prim.Native.Nat.{ℕ, suc, min}
 use mathlib.Core.Bool.{cond}
 use lib.Dec.{ltb}
+use Rattle.power_policy_interface.specs.Limits.{maxPorts}
 use Rattle.power_policy_interface.specs.Psu.{canConnectProviderOf}
 use Rattle.power_policy_interface.specs.declared.capability.DisconnectFlags.{DisconnectFlags}
 use Rattle.power_policy_interface.specs.declared.capability.OptionProviderPowerCapability.{OptionProviderPowerCapability}
@@ -37,7 +38,7 @@ provideIf (Result.Err e) m p c = closed (Result.Err e) m
 
 abbrev pub requestOf : Registration → Memory → ℕ → ProviderPowerCapability → Records → Turn
 requestOf g m p q r =
-    let s = powerStateOf (g .config) (totalWith p q (r .psus) (min 16 (g .ports))) in
+    let s = powerStateOf (g .config) (totalWith p q (r .psus) (min maxPorts (g .ports))) in
     provideIf (canConnectProviderOf (psuOf r p)) (remember (withPowerState s (m .state)) (m .notices)) p (grantOf (g .config) s q)
 
 abbrev pub provideFor : OptionProviderPowerCapability → Registration → Memory → ℕ → Records → Turn
@@ -57,7 +58,7 @@ abbrev pub afterRemoval : Removed → Registration → Memory → ℕ → Record
 afterRemoval d g m p r =
     cond (d .found)
     (remember
-    (withPowerState (powerStateOf (g .config) (totalOf (r .psus) (min 16 (g .ports)))) (withProviders (d .providers) (m .state)))
+    (withPowerState (powerStateOf (g .config) (totalOf (r .psus) (min maxPorts (g .ports)))) (withProviders (d .providers) (m .state)))
     (tellProvider (ProviderNotice.Disconnected p) (m .notices)))
     m
 

@@ -8,6 +8,7 @@ use native.Mathlib.Omega.{arith}
 use lib.Dec.{eqb, lit<}
 use lib.ListN.{length}
 use borrow.Author.Tests.{eqb-true, eqb-false}
+use Rattle.power_policy_interface.specs.Limits.{followerLength}
 use Rattle.records.specs.Row.{AllBytes}
 use Rattle.display.specs.Providers.{none}
 use Rattle.display.specs.declared.OptionAvailableConsumer.{OptionAvailableConsumer}
@@ -46,11 +47,11 @@ taken-number : (b : List ℕ) (f : Follower) (y : ReadPacket) → takenCall b f 
 taken-number b f (ReadPacket.Refused n) = refl
 taken-number b f (ReadPacket.Packet p) = refl
 
-module _ (x : List ℕ) (e : length x ≡ 241) (l : List DeskCall) (a : DeskBytes l) where
+module _ (x : List ℕ) (e : length x ≡ followerLength) (l : List DeskCall) (a : DeskBytes l) where
   read : followerFrom (desk functions x l) ≡ record { ok = true; follower = followerAfter (packetsOf l) }
   read = desk-read x e l (each-keeps (packetsOf l) a)
 
-  size : length (desk functions x l) ≡ 241
+  size : length (desk functions x l) ≡ followerLength
   size = ap length (desk-is x e l (each-keeps (packetsOf l) a)) ∙ follower-length (followerAfter (packetsOf l))
 
   number : (y : List ℕ) → takeCall (desk functions x l) y .number ≡ takeTo (readPacket y)
@@ -112,7 +113,7 @@ tracked-low : (p : paper.Follower) → trackedBy p % 256 ≡ 7
 tracked-low (paper.lost floor) = one-to-one .outcomes .tracked none
 tracked-low (paper.showing n d l) = one-to-one .outcomes .tracked (d .providers)
 
-module _ (x : List ℕ) (e : length x ≡ 241) (l : List DeskCall) (a : DeskBytes l) where
+module _ (x : List ℕ) (e : length x ≡ followerLength) (l : List DeskCall) (a : DeskBytes l) where
   returns : (c : DeskCall) → deskReturned functions (desk functions x l) c ≡ deskReturnTo (followed l) c
   returns (takePacket y) = number x e l a y
   returns readShown = told x e l a (λ f. shownAs (stateOf f) (f .shown)) ∙ shown-same (packetsOf l) a
@@ -145,7 +146,7 @@ module _ (x : List ℕ) (e : length x ≡ 241) (l : List DeskCall) (a : DeskByte
   buffers readConsumer = refl
   buffers readTracked = refl
 
-ours-follows : (x : List ℕ) → length x ≡ 241 → Follows functions x
+ours-follows : (x : List ℕ) → length x ≡ followerLength → Follows functions x
 ours-follows x e = record {
   fresh-lost = record {
     shown = told x e [] tt (λ f. shownAs (stateOf f) (f .shown));
@@ -164,7 +165,7 @@ ours-follows x e = record {
 
 pub ours-follower-starts : (x : List ℕ) → FollowerStarts functions x
 ours-follower-starts x = record {
-  number = number (eqb (length x) 241);
+  number = number (eqb (length x) followerLength);
   turned-back = λ e. ap (λ (t : Bool). cond {A = Called} t (called doneNumber (followerBytes fresh)) (refusedCall 21 x) .bytes) e;
   follows = ours-follows x;
 }

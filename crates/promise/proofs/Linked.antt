@@ -6,6 +6,7 @@ use mathlib.Core.List.{List, [], _∷_, _++_}
 use mathlib.Core.Logic.{_⊎_, _↔_, inl, inr, ⊎-elim}
 use Prim.Native.Nat.{ℕ, _+_, _/_, _≤_}
 use lib.ListN.{length}
+use Rattle.power_policy_interface.specs.Limits.{followerLength}
 use Rattle.power_policy_interface.specs.Psu.{answerByte}
 use Rattle.display.specs.declared.Display.{Display}
 use Rattle.display.specs.declared.packet.EventPacket.{EventPacket}
@@ -184,7 +185,7 @@ module _ (s : Service) (good : Good s) (demands : run.Demands s) (calls : List B
 
   -- what the readers return of the follower after these calls
 
-  module _ (x : List ℕ) (size : length x ≡ 241) (l : List DeskCall) (q : AllHanded functions image g calls (packetsOf l)) where
+  module _ (x : List ℕ) (size : length x ≡ followerLength) (l : List DeskCall) (q : AllHanded functions image g calls (packetsOf l)) where
     keep : AllKeep (packetsOf l)
     keep = all-keep source (packetsOf l) (all-handed (packetsOf l) q)
 
@@ -236,7 +237,7 @@ module _ (s : Service) (good : Good s) (demands : run.Demands s) (calls : List B
 
   -- the four conclusions
 
-  module _ (x : List ℕ) (size : length x ≡ 241) where
+  module _ (x : List ℕ) (size : length x ≡ followerLength) where
     never-wrong : (l : List DeskCall) → AllHanded functions image g calls (packetsOf l) →
         Lost functions (desk functions x l) ⊎ ((n : ℕ) × (n ≤ defined g calls .number) × Shows functions (desk functions x l) n (at n))
     never-wrong l q =

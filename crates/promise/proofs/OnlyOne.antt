@@ -7,6 +7,7 @@ use native.Mathlib.Omega.{arith}
 use lib.Dec.{eqb, ltb}
 use lib.ListN.{length}
 use borrow.Author.Tests.{eqb-true, eqb-false, eq-eqb}
+use Rattle.power_policy_interface.specs.Limits.{serviceLength, followerLength}
 use Rattle.power_policy_service.specs.declared.config.Config.{Config}
 use Rattle.power_policy_service.specs.declared.config.OptionConfig.{OptionConfig}
 use Rattle.abstract_policy.specs.Refusals.{firstRefused, startRefusals}
@@ -55,8 +56,8 @@ module _ (f g : Functions) (p : Promise f) (q : Promise g) where
   record AlikeDesk (x y : List ℕ) : Type 0 where
     lent-f : List ℕ
     lent-g : List ℕ
-    size-f : length lent-f ≡ 241
-    size-g : length lent-g ≡ 241
+    size-f : length lent-f ≡ followerLength
+    size-g : length lent-g ≡ followerLength
     calls : List DeskCall
     each : DeskBytes calls
     at-f : called.desk f lent-f calls ≡ x
@@ -79,20 +80,20 @@ module _ (f g : Functions) (p : Promise f) (q : Promise g) where
         at-g = refl;
       }
 
-  fresh-desk : (x y : List ℕ) → length x ≡ 241 → length y ≡ 241 → AlikeDesk (f .follower-start x .bytes) (g .follower-start y .bytes)
+  fresh-desk : (x y : List ℕ) → length x ≡ followerLength → length y ≡ followerLength → AlikeDesk (f .follower-start x .bytes) (g .follower-start y .bytes)
   fresh-desk x y h k =
       record { lent-f = x; lent-g = y; size-f = h; size-g = k; calls = []; each = tt; at-f = refl; at-g = refl }
 
   module _ (b c : List ℕ) (s : Alike b c) where
-    length-f : length b ≡ 67
+    length-f : length b ≡ serviceLength
     length-f = ap length (sym (s .at-f)) ∙ s .serves-f .size (s .calls) (s .bytes)
 
-    length-g : length c ≡ 67
+    length-g : length c ≡ serviceLength
     length-g = ap length (sym (s .at-g)) ∙ s .serves-g .size (s .calls) (s .bytes)
 
     same-refusal : (a : Arguments) → startRefused b a ≡ startRefused c a
     same-refusal a =
-        ap (λ (n : ℕ). firstRefused (startRefusals (configOf a) (a .ports) (a .chargers) ++ ((not (eqb n 67), 21) ∷ []))) (length-f ∙ sym length-g)
+        ap (λ (n : ℕ). firstRefused (startRefusals (configOf a) (a .ports) (a .chargers) ++ ((not (eqb n serviceLength), 21) ∷ []))) (length-f ∙ sym length-g)
 
     start-number : (a : Arguments) → f .start b a .number ≡ g .start c a .number
     start-number a = p .start b a .number ∙ (ap doneOr (same-refusal a) ∙ sym (q .start c a .number))
@@ -131,15 +132,15 @@ module _ (f g : Functions) (p : Promise f) (q : Promise g) where
     }
 
   module _ (x y : List ℕ) (s : AlikeDesk x y) where
-    size-x : length x ≡ 241
+    size-x : length x ≡ followerLength
     size-x = ap length (sym (s .at-f)) ∙ p .follower-start (s .lent-f) .follows (s .size-f) .size (s .calls) (s .each)
 
-    size-y : length y ≡ 241
+    size-y : length y ≡ followerLength
     size-y = ap length (sym (s .at-g)) ∙ q .follower-start (s .lent-g) .follows (s .size-g) .size (s .calls) (s .each)
 
     desk-start : f .follower-start x .number ≡ g .follower-start y .number
     desk-start =
-        p .follower-start x .number ∙ (ap (λ (n : ℕ). cond {A = ℕ} (eqb n 241) doneNumber (refusedNumber 21)) (size-x ∙ sym size-y) ∙ sym (q .follower-start y .number))
+        p .follower-start x .number ∙ (ap (λ (n : ℕ). cond {A = ℕ} (eqb n followerLength) doneNumber (refusedNumber 21)) (size-x ∙ sym size-y) ∙ sym (q .follower-start y .number))
 
     desk-number : (d : DeskCall) → deskReturned f x d ≡ deskReturned g y d
     desk-number d =
@@ -175,15 +176,15 @@ module _ (f g : Functions) (p : Promise f) (q : Promise g) where
   alike (desk d ∷ l) b c x y h s t =
       two _ _ _ _ _ _ (desk-number x y t d) (desk-buffer x y t d) (alike l b c (deskAfter f x d) (deskAfter g y d) (h .1) s (desk-alike x y t d (h .0)))
 
-  sized : (x : List ℕ) → f .follower-start x .number ≡ doneNumber → length x ≡ 241
-  sized x e = go (eqb (length x) 241) refl (sym (p .follower-start x .number) ∙ e)
+  sized : (x : List ℕ) → f .follower-start x .number ≡ doneNumber → length x ≡ followerLength
+  sized x e = go (eqb (length x) followerLength) refl (sym (p .follower-start x .number) ∙ e)
     where
-      go : (t : Bool) → eqb (length x) 241 ≡ t → cond t doneNumber (refusedNumber 21) ≡ doneNumber → length x ≡ 241
-      go true h k = eqb-true (length x) 241 h
+      go : (t : Bool) → eqb (length x) followerLength ≡ t → cond t doneNumber (refusedNumber 21) ≡ doneNumber → length x ≡ followerLength
+      go true h k = eqb-true (length x) followerLength h
       go false h k = absurd (let z : _≡_ {A = ℕ} 0 4 = sym (refused-low 21) ∙ (ap (λ (n : ℕ). n % 256) k ∙ done-low) in omega (arith, z))
 
-  unsized : (x : List ℕ) → (f .follower-start x .number ≡ doneNumber → ⊥) → eqb (length x) 241 ≡ false
-  unsized x k = go (eqb (length x) 241) (p .follower-start x .number)
+  unsized : (x : List ℕ) → (f .follower-start x .number ≡ doneNumber → ⊥) → eqb (length x) followerLength ≡ false
+  unsized x k = go (eqb (length x) followerLength) (p .follower-start x .number)
     where
       go : (t : Bool) → f .follower-start x .number ≡ cond t doneNumber (refusedNumber 21) → t ≡ false
       go true e = absurd (k e)

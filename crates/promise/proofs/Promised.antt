@@ -6,6 +6,7 @@ use mathlib.Core.Logic.{inl, inr}
 use Prim.Native.Nat.{ℕ}
 use lib.Dec.{eqb}
 use lib.ListN.{length}
+use Rattle.power_policy_interface.specs.Limits.{serviceLength, followerLength}
 use Rattle.records.specs.Row.{AllBytes}
 use Rattle.display.specs.declared.packet.EventPacket.{EventPacket}
 use Rattle.display.specs.declared.packet.Packet.{Packet}
@@ -169,14 +170,14 @@ start-serves image a q c e =
 
 -- bytes of another length
 
-no-service : (b : List ℕ) → eqb (length b) 67 ≡ false → serviceFrom b ≡ ReadService.Refused
+no-service : (b : List ℕ) → eqb (length b) serviceLength ≡ false → serviceFrom b ≡ ReadService.Refused
 unfolding serviceFrom
 no-service b e = rw e refl
 
-no-follower : (b : List ℕ) → eqb (length b) 241 ≡ false → followerFrom b .ok ≡ false
+no-follower : (b : List ℕ) → eqb (length b) followerLength ≡ false → followerFrom b .ok ≡ false
 no-follower b e = rw e refl
 
-service-other : (b : List ℕ) (c : ByteCall) → eqb (length b) 67 ≡ false →
+service-other : (b : List ℕ) (c : ByteCall) → eqb (length b) serviceLength ≡ false →
     (returned functions b c ≡ refusedNumber 21) × (imageAfter functions b c ≡ b) × (bufferAfter functions b c ≡ bufferIn c)
 service-other b (openEvent psus chargers kind device detail) e =
     let q = no-service b e in
@@ -192,7 +193,7 @@ service-other b (writePicture buffer) e =
     let q = no-service b e in
     (ap (λ (r : ReadService). writePictureCall r buffer .number) q, refl, ap (λ (r : ReadService). writePictureCall r buffer .bytes) q)
 
-desk-other : (b : List ℕ) (c : DeskCall) → eqb (length b) 241 ≡ false →
+desk-other : (b : List ℕ) (c : DeskCall) → eqb (length b) followerLength ≡ false →
     (deskReturned functions b c ≡ refusedNumber 21) × (deskAfter functions b c ≡ b) × (deskBufferAfter functions b c ≡ deskBufferIn c)
 desk-other b c e = go c
   where

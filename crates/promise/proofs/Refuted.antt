@@ -8,6 +8,7 @@ use native.Mathlib.Omega.{arith}
 use lib.Dec.{eqb, ltb}
 use borrow.Author.Tests.{ltb-true}
 use lib.ListN.{length, replicate, take, getD, set}
+use Rattle.power_policy_interface.specs.Limits.{serviceLength, followerLength}
 use Rattle.power_policy_interface.specs.declared.psu.Result.{Result}
 use Rattle.records.specs.Row.{AllBytes}
 use Rattle.display.specs.declared.packet.EventPacket.{EventPacket}
@@ -46,7 +47,7 @@ use Rattle.promise.proofs.Shown.{not-lost}
 zeros : ℕ → List ℕ
 zeros n = replicate n 0
 
-follower-zeros : length (zeros 241) ≡ 241
+follower-zeros : length (zeros followerLength) ≡ followerLength
 unfolding zeros
 follower-zeros = refl
 
@@ -59,15 +60,15 @@ abbrev g : ℕ → Registration
 g ports = registers (figures ports) rustDefault
 
 -- it is done, on 67 bytes
-accepted-1 : startRefused (zeros 67) (figures 1) ≡ 0
+accepted-1 : startRefused (zeros serviceLength) (figures 1) ≡ 0
 unfolding zeros
 accepted-1 = refl
 
-accepted-2 : startRefused (zeros 67) (figures 2) ≡ 0
+accepted-2 : startRefused (zeros serviceLength) (figures 2) ≡ 0
 unfolding zeros
 accepted-2 = refl
 
-accepted-5 : startRefused (zeros 67) (figures 5) ≡ 0
+accepted-5 : startRefused (zeros serviceLength) (figures 5) ≡ 0
 unfolding zeros
 accepted-5 = refl
 
@@ -97,8 +98,8 @@ requests = 1 ∷ 0 ∷ 0 ∷ 0 ∷ 0 ∷ 0 ∷ 0 ∷ 0 ∷ 0 ∷ 0 ∷ 0 ∷ 0 �
 -- of all programs: what was written at a point of the run is this event's packet or picture
 
 module _ (f : Functions) (promise : Promise f) where
-  serves : (n : ℕ) → startRefused (zeros 67) (figures n) ≡ 0 → Serves f (f .start (zeros 67) (figures n) .bytes) (g n)
-  serves n e = promise .start (zeros 67) (figures n) .serves e rustDefault refl
+  serves : (n : ℕ) → startRefused (zeros serviceLength) (figures n) ≡ 0 → Serves f (f .start (zeros serviceLength) (figures n) .bytes) (g n)
+  serves n e = promise .start (zeros serviceLength) (figures n) .serves e rustDefault refl
 
 -- the first run, of one port: a picture is written at once; an event connects port 0 as the consumer, and its packet is written
 
@@ -200,11 +201,11 @@ read-1 = (record { number = 1; answer = 0; orders = 2; notices = _ }, refl, refl
 -- whatever the functions, if they keep the promise
 
 abbrev X : List ℕ
-X = zeros 241
+X = zeros followerLength
 
 module _ (f : Functions) (promise : Promise f) where
   abbrev image : List ℕ
-  image = f .start (zeros 67) (figures 1) .bytes
+  image = f .start (zeros serviceLength) (figures 1) .bytes
 
   served : Serves f image (g 1)
   served = serves f promise 1 accepted-1
@@ -361,7 +362,7 @@ not-ignoring p =
 
 not-inventing : Promise inventsCount → ⊥
 not-inventing p =
-    let b = images functions (functions .start (zeros 67) (figures 1) .bytes) before-packet in
+    let b = images functions (functions .start (zeros serviceLength) (figures 1) .bytes) before-packet in
     let x : getD (set (bufferAfter functions b packets) 3 35) 3 0 ≡ 2 =
     ap (λ (l : List ℕ). getD l 3 0) (serves inventsCount p 1 accepted-1 .buffers before-packet packets before-bytes) ∙ counted in
     let z : _≡_ {A = ℕ} 2 35 =
@@ -388,7 +389,7 @@ not-turning-back n p =
 -- a Detached leaves what an update does
 not-full : Promise staysFull → ⊥
 not-full p =
-    let b : List ℕ = functions .start (zeros 67) (figures 5) .bytes in
+    let b : List ℕ = functions .start (zeros serviceLength) (figures 5) .bytes in
     let z : _≡_ {A = ℕ} 3 4 =
     sym (ap (λ (l : List ℕ). getD l 5 0) (serves staysFull p 5 accepted-5 .buffers (leaves 4) pictures (leaves-bytes 4)) ∙ tracks-three)
     ∙ (ap (λ (i : List ℕ). getD (bufferAfter functions i pictures) 5 0) (same b)

@@ -7,6 +7,7 @@ use native.Mathlib.Omega.{arith}
 use lib.Dec.{eqb, ltb}
 use lib.ListN.{length}
 use borrow.Author.Tests.{eqb-true, eqb-false}
+use Rattle.power_policy_interface.specs.Limits.{serviceLength}
 use Rattle.power_policy_service.specs.declared.config.Config.{Config}
 use Rattle.power_policy_service.specs.declared.config.OptionConfig.{OptionConfig}
 use Rattle.abstract_policy.specs.Refusals.{firstRefused}
@@ -48,7 +49,7 @@ module _ (image : List ℕ) (ports chargers : ℕ) where
       from : Bool → Bool → Started
       from s t = let n : ℕ = cond (s || (t || false)) 20 0 in cond (eqb n 0) (startWith (OptionConfig.Some c) ports chargers) (Started.Refused n)
 
-      last : (u : Bool) → eqb (length image) 67 ≡ u → cond {A = ℕ} (not u) 21 0 ≡ 0 → Leaves c (startedCall image (from false false)) (from false false)
+      last : (u : Bool) → eqb (length image) serviceLength ≡ u → cond {A = ℕ} (not u) 21 0 ≡ 0 → Leaves c (startedCall image (from false false)) (from false false)
       last true e q = record {
         number = ap (λ (t : Bool). cond {A = Called} t (called doneNumber (serviceBytes (freshService c ports chargers))) (refusedCall 21 image) .number) e;
         bytes = ap (λ (t : Bool). cond {A = Called} t (called doneNumber (serviceBytes (freshService c ports chargers))) (refusedCall 21 image) .bytes) e;
@@ -56,10 +57,10 @@ module _ (image : List ℕ) (ports chargers : ℕ) where
       }
       last false e q = absurd (omega (arith, q))
 
-      go : (s t : Bool) → cond {A = ℕ} (s || (t || false)) 20 (cond (not (eqb (length image) 67)) 21 0) ≡ 0 → Leaves c (startedCall image (from s t)) (from s t)
+      go : (s t : Bool) → cond {A = ℕ} (s || (t || false)) 20 (cond (not (eqb (length image) serviceLength)) 21 0) ≡ 0 → Leaves c (startedCall image (from s t)) (from s t)
       go true t q = absurd (omega (arith, q))
       go false true q = absurd (omega (arith, q))
-      go false false q = last (eqb (length image) 67) refl q
+      go false false q = last (eqb (length image) serviceLength) refl q
 
   pub start-leaves : (o : OptionConfig) (c : Config) → o ≡ OptionConfig.Some c → refusal o ≡ 0 → Leaves c (startCall image o ports chargers) (startOf o ports chargers)
   start-leaves o c e q =
@@ -80,7 +81,7 @@ module _ (image : List ℕ) (ports chargers : ℕ) where
   pub start-back : (o : OptionConfig) → (refusal o ≡ 0 → ⊥) → startCall image o ports chargers .bytes ≡ image
   start-back OptionConfig.None = go (ltb 16 ports) (ltb 8 chargers)
     where
-      go : (s t : Bool) → (cond {A = ℕ} (s || (t || true)) 20 (cond (not (eqb (length image) 67)) 21 0) ≡ 0 → ⊥) →
+      go : (s t : Bool) → (cond {A = ℕ} (s || (t || true)) 20 (cond (not (eqb (length image) serviceLength)) 21 0) ≡ 0 → ⊥) →
           startedCall image
           (let n : ℕ = cond (s || (t || true)) 20 0 in cond (eqb n 0) (startWith OptionConfig.None ports chargers) (Started.Refused n)) .bytes
           ≡ image
@@ -94,10 +95,10 @@ module _ (image : List ℕ) (ports chargers : ℕ) where
       last true k = absurd (k refl)
       last false k = refl
 
-      go : (s t : Bool) → (cond {A = ℕ} (s || (t || false)) 20 (cond (not (eqb (length image) 67)) 21 0) ≡ 0 → ⊥) →
+      go : (s t : Bool) → (cond {A = ℕ} (s || (t || false)) 20 (cond (not (eqb (length image) serviceLength)) 21 0) ≡ 0 → ⊥) →
           startedCall image
           (let n : ℕ = cond (s || (t || false)) 20 0 in cond (eqb n 0) (startWith (OptionConfig.Some c) ports chargers) (Started.Refused n)) .bytes
           ≡ image
       go true t k = refl
       go false true k = refl
-      go false false k = last (eqb (length image) 67) k
+      go false false k = last (eqb (length image) serviceLength) k

@@ -5,6 +5,7 @@ use mathlib.Core.Logic.{_↔_}
 use mathlib.Core.Path.{_≡_}
 use Prim.Native.Nat.{ℕ, _≤_}
 use lib.ListN.{replicate}
+use Rattle.power_policy_interface.specs.Limits.{serviceLength}
 use Rattle.display.specs.Set.{SetLaws}
 use Rattle.power_policy_service.specs.Config.{rustDefault, defaultConfig}
 use Rattle.power_policy_service.specs.PairOrder.{PairOrder}
@@ -15,7 +16,7 @@ use Rattle.abstract_policy.specs.Refusals.{rank, Applies, First, Base, Lowest}
 use Rattle.abstract_calls.specs.Functions.{Functions, Arguments, arguments, configOf}
 use Rattle.exported.specs.Ours.{functions}
 use Rattle.promise.specs.Layout.{Layout}
-use Rattle.promise.specs.Promise.{serviceLength, startRefused, registers, Promise, Meaning}
+use Rattle.promise.specs.Promise.{startRefused, registers, Promise, Meaning}
 use Rattle.promise.specs.Same.{Same}
 use Rattle.promise.specs.Testers.{Testers}
 

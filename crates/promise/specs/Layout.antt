@@ -6,6 +6,7 @@ use mathlib.Core.List.{List, _++_, flatten}
 use mathlib.Core.Logic.{_↔_}
 use mathlib.Core.Path.{_≡_}
 use lib.ListN.{length, drop}
+use Rattle.power_policy_interface.specs.Limits.{followerLength, bufferLength}
 use Rattle.power_policy_interface.specs.declared.charger.State as charger
 use Rattle.power_policy_interface.specs.declared.psu.State as psu
 use Rattle.records.specs.Row.{AllBytes}
@@ -48,7 +49,7 @@ use Rattle.follower_image.specs.Image.{followerBytes, followerFrom}
 use Rattle.calls.specs.Calls.{takenCall}
 use Rattle.exported.specs.Ours.{functions}
 use Rattle.run_image.specs.Refused.{conditions}
-use Rattle.promise.specs.Promise.{followerLength, startRefused, registers}
+use Rattle.promise.specs.Promise.{startRefused, registers}
 
 pub record Layout : Type 0 where
   -- 21 is exact: bytes are read as a service, or as a follower, exactly if it is well formed and they are its image.
@@ -83,7 +84,7 @@ pub record Layout : Type 0 where
   pub turned-back : (b : List ℕ) (c : ByteCall) → returned functions b c % 256 ≡ 0 → (imageAfter functions b c ≡ b) × (bufferAfter functions b c ≡ bufferIn c)
   -- Bytes are read as a packet or picture exactly if it is well formed and they are its bytes, which are at most 64.
   pub packet : (y : List ℕ) (p : Packet) → AllBytes y → (readPacket y ≡ ReadPacket.Packet p) ↔ ((y ≡ packetBytes p) × (wire.wellFormed p ≡ true))
-  pub packet-length : (p : Packet) → wire.wellFormed p ≡ true → length (packetBytes p) ≤ 64
+  pub packet-length : (p : Packet) → wire.wellFormed p ≡ true → length (packetBytes p) ≤ bufferLength
   -- A number is read from its groups of seven bits, in shortest form, and from nothing else.
   pub number-back : (limit n : ℕ) (r : List ℕ) → n ≤ limit → n ≤ 4294967295 → readNumber limit (leb128 n ++ r) ≡ ReadNumber.Number n (length (leb128 n))
   pub number-bytes : (limit : ℕ) (y : List ℕ) (n u : ℕ) → AllBytes y → readNumber limit y ≡ ReadNumber.Number n u → y ≡ leb128 n ++ drop u y

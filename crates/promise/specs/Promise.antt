@@ -23,6 +23,7 @@ use mathlib.Core.Logic.{_⊎_, _↔_}
 use mathlib.Core.Path.{_≡_}
 use lib.Dec.{eqb}
 use lib.ListN.{length}
+use Rattle.power_policy_interface.specs.Limits.{maxNotices, window, serviceLength, followerLength}
 use Rattle.records.specs.Row.{AllBytes}
 use Rattle.display.specs.Notices.{listed}
 use Rattle.display.specs.declared.packet.EventPacket.{EventPacket}
@@ -49,13 +50,6 @@ use Rattle.abstract_calls.specs.Functions.{Functions, Arguments, configOf}
 use Rattle.abstract_calls.specs.Definition.{callsOf, defined, held, Closes, OrderFitsAt, returnTo, bufferTo, conditionsTo, startConditions, Refuses, followed, deskReturnTo, deskBufferTo, deskConditionsTo}
 use Rattle.promise.specs.Runs.{PictureOf, Handed, AllHanded, Comes, NothingAbove, NoEventAbove, Lost, Shows}
 
--- the lengths of the images, which the header names
-abbrev pub serviceLength : ℕ
-serviceLength = 67
-
-abbrev pub followerLength : ℕ
-followerLength = 241
-
 -- 0: done; else the number that turns it back
 abbrev pub doneOr : ℕ → ℕ
 doneOr n = cond (eqb n 0) doneNumber (refusedNumber n)
@@ -77,7 +71,7 @@ pub record Link (f : Functions) (image : List ℕ) (g : Registration) (calls : L
   -- If it shows n and then each event packet n + 1 to n + k comes, in any order, k ≤ 8, all without error, and nothing above n + k anywhere among the takes,
   -- it shows n + k.
   pub follows :
-      (before later : List DeskCall) (n k : ℕ) → AllHanded f image g calls (packetsOf (before ++ later)) → Shows f (desk f x before) n (held g calls n) → k ≤ 8 →
+      (before later : List DeskCall) (n k : ℕ) → AllHanded f image g calls (packetsOf (before ++ later)) → Shows f (desk f x before) n (held g calls n) → k ≤ window →
       Comes f image g calls n k (packetsOf later) → NothingAbove f image g calls (n + k) (packetsOf (before ++ later)) →
       Shows f (desk f x (before ++ later)) (n + k) (held g calls (n + k))
   -- Lost, it shows a picture exactly when that is numbered no lower than every event packet met before.
@@ -177,7 +171,7 @@ pub record Meaning (g : Registration) : Type 0 where
   -- The notices of the packet are the definition's, whole, 0 to 4.
   pub notices :
       (l : List ByteCall) (e : EventPacket) → CallsBytes l → packetTo (defined g l) ≡ SentPacket.Packet e →
-      (listed (e .notices) ≡ defined g l .notices) × (length (defined g l .notices) ≤ 4)
+      (listed (e .notices) ≡ defined g l .notices) × (length (defined g l .notices) ≤ maxNotices)
   -- The chosen consumer is none if no port is eligible, else the earliest with most milliwatts, the current one winning ties; and it is held when the event has
   -- closed without error.
   pub choice : Choices g

@@ -6,6 +6,7 @@ use mathlib.Core.Path.{_≡_}
 use mathlib.Core.Bool.{false}
 use lib.Dec.{eqb}
 use lib.ListN.{length}
+use Rattle.power_policy_interface.specs.Limits.{serviceLength, followerLength}
 use Rattle.abstract_desk.specs.Takes.{EachBytes}
 use Rattle.abstract_calls.specs.Called.{Called}
 use Rattle.abstract_calls.specs.Numbers.{doneNumber}
@@ -13,7 +14,6 @@ use Rattle.abstract_calls.specs.ServiceCall.{ByteCall}
 use Rattle.abstract_calls.specs.Calls.{CallBytes, imageAfter, returned, bufferAfter, deskAfter, deskReturned, deskBufferAfter}
 use Rattle.abstract_calls.specs.DeskCall.{DeskCall, deskCall}
 use Rattle.abstract_calls.specs.Functions.{Functions, Arguments}
-use Rattle.promise.specs.Promise.{serviceLength, followerLength}
 
 pub data Call : Type 0 where
   start : Arguments → Call

@@ -2,6 +2,7 @@
 use Prim.Native.Nat.{ℕ, _<_, _≤_}
 use mathlib.Core.Bool.{true}
 use mathlib.Core.Path.{_≡_}
+use Rattle.power_policy_interface.specs.Limits.{maxPorts, maxChargers}
 use Rattle.power_policy_interface.specs.Capability.{capabilityFits}
 use Rattle.power_policy_interface.specs.declared.capability.OptionConsumerPowerCapability.{OptionConsumerPowerCapability}
 use Rattle.power_policy_interface.specs.declared.capability.OptionProviderPowerCapability.{OptionProviderPowerCapability}
@@ -26,12 +27,12 @@ abbrev pub PsuFits : State → Type 0
 PsuFits s = OfferFits (s .«consumer_capability») × RequestFits (s .«requested_provider_capability»)
 
 abbrev pub RecordsFit : Records → Type 0
-RecordsFit r = (p : ℕ) → p < 16 → PsuFits (psuAt (r .psus) p)
+RecordsFit r = (p : ℕ) → p < maxPorts → PsuFits (psuAt (r .psus) p)
 
 -- what a start has accepted: the service is fresh, and all figures are within their types
 pub record StartFits (ports chargers : ℕ) (s : Service) : Type 0 where
   pub config : Config
   pub fresh : s ≡ freshService config ports chargers
-  pub few-ports : ports ≤ 16
-  pub few-chargers : chargers ≤ 8
+  pub few-ports : ports ≤ maxPorts
+  pub few-chargers : chargers ≤ maxChargers
   pub figures : ConfigFits config

@@ -7,6 +7,7 @@ use native.Mathlib.Omega.{arith}
 use lib.Dec.{eqb, ltb}
 use lib.ListN.{length}
 use borrow.Author.Tests.{eqb-true, eqb-false}
+use Rattle.power_policy_interface.specs.Limits.{serviceLength}
 use Rattle.power_policy_interface.specs.declared.psu.Result.{Result}
 use Rattle.power_policy_service.specs.declared.config.OptionConfig.{OptionConfig}
 use Rattle.abstract_policy.specs.Refusals.{firstRefused, First, overRegistered}
@@ -174,21 +175,21 @@ pub start-refuses : (image : List ℕ) (config : OptionConfig) (ports chargers :
     → Refuses (startConditions image config ports chargers) (startCall image config ports chargers .number)
 start-refuses image OptionConfig.None ports chargers = go (ltb 16 ports) (ltb 8 chargers)
   where
-    go : (x y : Bool) → Refuses ((x || (y || true), 20) ∷ (not (eqb (length image) 67), 21) ∷ [])
+    go : (x y : Bool) → Refuses ((x || (y || true), 20) ∷ (not (eqb (length image) serviceLength), 21) ∷ [])
         (startedCall image (cond (eqb (cond (x || (y || true)) 20 0) 0) (Started.Refused 20) (Started.Refused (cond (x || (y || true)) 20 0))) .number)
     go true y = record { first = first _ refl; turned-back = λ z. refl; accepted = λ e. absurd (omega (arith, e)) }
     go false true = record { first = first _ refl; turned-back = λ z. refl; accepted = λ e. absurd (omega (arith, e)) }
     go false false = record { first = first _ refl; turned-back = λ z. refl; accepted = λ e. absurd (omega (arith, e)) }
-start-refuses image (OptionConfig.Some c) ports chargers = go (overRegistered (OptionConfig.Some c) ports chargers) (eqb (length image) 67) refl
+start-refuses image (OptionConfig.Some c) ports chargers = go (overRegistered (OptionConfig.Some c) ports chargers) (eqb (length image) serviceLength) refl
   where
     s : Service
     s = freshService c ports chargers
 
     -- 20 does not apply: the length decides
-    at : (t : Bool) → eqb (length image) 67 ≡ t → startedCall image (Started.Service s) .number ≡ cond t (called doneNumber (serviceBytes s)) (refusedCall 21 image) .number
+    at : (t : Bool) → eqb (length image) serviceLength ≡ t → startedCall image (Started.Service s) .number ≡ cond t (called doneNumber (serviceBytes s)) (refusedCall 21 image) .number
     at t e = ap (λ (x : Bool). cond x (called doneNumber (serviceBytes s)) (refusedCall 21 image) .number) e
 
-    go : (o t : Bool) → eqb (length image) 67 ≡ t → Refuses ((o, 20) ∷ (not t, 21) ∷ [])
+    go : (o t : Bool) → eqb (length image) serviceLength ≡ t → Refuses ((o, 20) ∷ (not t, 21) ∷ [])
         (startedCall image (cond (eqb (cond o 20 0) 0) (Started.Service s) (Started.Refused (cond o 20 0))) .number)
     go true t e = record { first = first _ refl; turned-back = λ z. refl; accepted = λ z. absurd (omega (arith, z)) }
     go false true e =

@@ -7,6 +7,7 @@ use Prim.Native.Nat.{ℕ}
 use lib.Dec.{eqb, ltb}
 use lib.ListN.{length}
 use borrow.Author.Tests.{eq-eqb}
+use Rattle.power_policy_interface.specs.Limits.{serviceLength}
 use Rattle.power_policy_interface.specs.declared.psu.Result.{Result}
 use Rattle.abstract_policy.specs.Refusals.{firstRefused}
 use Rattle.abstract_policy.specs.Given.{eventOf, resultOf}
@@ -139,7 +140,7 @@ pub image-read : (s : Service) → Good s → serviceFrom (serviceBytes s) ≡ R
 image-read s h = service-read-write s (h .typed) (h .fits)
 
 put-is : (s t : Service) → putService (serviceBytes s) t ≡ serviceBytes t
-put-is s t = ap (λ (x : Bool). cond x (serviceBytes t) (serviceBytes s)) (eq-eqb (length (serviceBytes s)) 67 (service-length s))
+put-is s t = ap (λ (x : Bool). cond x (serviceBytes t) (serviceBytes s)) (eq-eqb (length (serviceBytes s)) serviceLength (service-length s))
 
 stepped-bytes : (s : Service) (x : Step) (t : Service) → BackAt s x t → steppedAt (serviceBytes s) x t .bytes ≡ serviceBytes t
 stepped-bytes s (Step.Order o) t b = put-is s t

@@ -6,6 +6,7 @@ use mathlib.Core.List.{List, [], _∷_}
 use Prim.Native.Nat.{ℕ}
 use lib.ListN.{length}
 use borrow.Author.Tests.{eq-eqb}
+use Rattle.power_policy_interface.specs.Limits.{followerLength}
 use Rattle.records.specs.Row.{AllBytes}
 use Rattle.wire.specs.Read.{readPacket}
 use Rattle.wire.specs.declared.packet.ReadPacket.{ReadPacket}
@@ -33,7 +34,7 @@ use Rattle.exported.specs.Ours.{functions}
 -- one take
 
 put-is : (f g : Follower) → putFollower (followerBytes f) g ≡ followerBytes g
-put-is f g = ap (λ (x : Bool). cond x (followerBytes g) (followerBytes f)) (eq-eqb (length (followerBytes f)) 241 (follower-length f))
+put-is f g = ap (λ (x : Bool). cond x (followerBytes g) (followerBytes f)) (eq-eqb (length (followerBytes f)) followerLength (follower-length f))
 
 taken-bytes : (f : Follower) (y : ReadPacket) → takenCall (followerBytes f) f y .bytes ≡ followerBytes (takenRead f y)
 taken-bytes f (ReadPacket.Refused n) = refl
@@ -47,8 +48,8 @@ take-bytes f x h =
 
 -- a start
 
-started-bytes : (b : List ℕ) → length b ≡ 241 → followerStartCall b .bytes ≡ followerBytes fresh
-started-bytes b e = ap (λ (x : Bool). cond {A = Called} x (called doneNumber (followerBytes fresh)) (refusedCall 21 b) .bytes) (eq-eqb (length b) 241 e)
+started-bytes : (b : List ℕ) → length b ≡ followerLength → followerStartCall b .bytes ≡ followerBytes fresh
+started-bytes b e = ap (λ (x : Bool). cond {A = Called} x (called doneNumber (followerBytes fresh)) (refusedCall 21 b) .bytes) (eq-eqb (length b) followerLength e)
 
 -- takes that leave a follower that has an image
 
@@ -110,7 +111,7 @@ takes-fit (x ∷ l) f a h = takes-fit l (takeBytes f x) (a .1) (a .0 .fits f h)
 
 -- from a fresh follower's image
 
-module _ (b : List ℕ) (e : length b ≡ 241) (l : List DeskCall) (a : AllKeep (packetsOf l)) where
+module _ (b : List ℕ) (e : length b ≡ followerLength) (l : List DeskCall) (a : AllKeep (packetsOf l)) where
   pub desk-is : desk functions b l ≡ followerBytes (followerAfter (packetsOf l))
   desk-is =
       desk-takes functions l (functions .follower-start b .bytes)

@@ -16,6 +16,8 @@ use event::phase::Phase;
 use event::phase::Turn;
 use power_policy_interface::capability::DisconnectFlags;
 use power_policy_interface::capability::OptionDisconnectFlags;
+use power_policy_interface::limits::MAX_CHARGERS;
+use power_policy_interface::limits::MAX_PORTS;
 use power_policy_interface::psu;
 use power_policy_interface::psu::event::EventData;
 use power_policy_service::config::Config;
@@ -28,6 +30,12 @@ ghost use Rattle.abstract_policy.specs.Refusals.{firstRefused};
 ghost use Rattle.abstract_policy.specs.Given.{flagsOf, eventOf, resultOf};
 ghost use Rattle.service.specs.Refusals.{isOpen, openRefusals};
 ghost use Rattle.service.specs.Service.{serviceWith, freshTurn, freshService, startOf, refused, increment, answerIn, closedBy, orderedBy, moved, clearedOf, openedOf, openOf, orderIn, answeredBy, answerOf};
+
+// Ports, as wide as the number that a start is given.
+const PORTS: u32 = MAX_PORTS as u32;
+
+// Chargers likewise.
+const CHARGERS: u32 = MAX_CHARGERS as u32;
 
 // The service between calls: what is registered, the number of the event closed last, what is held with the notices of the open
 // or last closed event, how many orders that event has given, and where it stands.
@@ -95,10 +103,10 @@ fn fresh(config: Config, ports: u8, chargers: u8) -> Service
 pub fn start(config: OptionConfig, ports: u32, chargers: u32) -> Started
     ensures { λ r. ⌜ r ≡ startOf config ports chargers ⌝ }
 {
-    if 16 < ports {
+    if PORTS < ports {
         return Started::Refused(20);
     }
-    if 8 < chargers {
+    if CHARGERS < chargers {
         return Started::Refused(20);
     }
     match config {

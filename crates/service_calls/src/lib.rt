@@ -8,6 +8,7 @@ use abstract_policy::outcome::Step;
 use calls::numbers;
 use calls::rows::read_rows;
 use event::phase::Phase;
+use power_policy_interface::limits::SERVICE_IMAGE;
 use power_policy_service::config::OptionConfig;
 use service::Service;
 use service::Started;
@@ -143,7 +144,7 @@ fn store_started(image: &mut [u8], started: Started) -> u64
     match started {
         Started::Refused(number) => numbers::refused(number),
         Started::Service(service) => {
-            if image.len() == 67 {
+            if image.len() == SERVICE_IMAGE {
                 service_image::write(image, service);
                 return numbers::done();
             }

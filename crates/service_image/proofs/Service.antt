@@ -8,6 +8,7 @@ use native.Mathlib.Omega.{arith}
 use lib.Dec.{eqb, leb}
 use lib.ListN.{length, getD}
 use borrow.Author.Tests.{eqb-true, leb-true}
+use Rattle.power_policy_interface.specs.Limits.{serviceLength}
 use Rattle.records.specs.Row.{AllBytes}
 use Rattle.abstract_policy.specs.State.{displayOf}
 use Rattle.event.specs.declared.memory.Notices.{Notices}
@@ -243,37 +244,37 @@ groups-said b s h q =
     q
 
 record Accepted (b : List ℕ) (s : Service) : Type 0 where
-  size : length b ≡ 67
+  size : length b ≡ serviceLength
   first : getD b 0 0 ≡ 1
   groups : partsFrom b ≡ ReadService.Read s
   formed : wellFormed s ≡ true
 
-formed-read : (b : List ℕ) (s x : Service) (t : Bool) → length b ≡ 67 → getD b 0 0 ≡ 1 → partsFrom b ≡ ReadService.Read x → wellFormed x ≡ t
+formed-read : (b : List ℕ) (s x : Service) (t : Bool) → length b ≡ serviceLength → getD b 0 0 ≡ 1 → partsFrom b ≡ ReadService.Read x → wellFormed x ≡ t
     → cond t (ReadService.Read x) ReadService.Refused ≡ ReadService.Read s → Accepted b s
 formed-read b s x true l f g e q =
     let k : x ≡ s = cc in
     subst (λ (v : Service). Accepted b v) k (record { size = l; first = f; groups = g; formed = e })
 formed-read b s x false l f g e q = absurd (let v : _≡_ {A = ℕ} 0 1 = cc in omega arith)
 
-checked-read : (b : List ℕ) (s : Service) (r : ReadService) → length b ≡ 67 → getD b 0 0 ≡ 1 → partsFrom b ≡ r → checked r ≡ ReadService.Read s
+checked-read : (b : List ℕ) (s : Service) (r : ReadService) → length b ≡ serviceLength → getD b 0 0 ≡ 1 → partsFrom b ≡ r → checked r ≡ ReadService.Read s
     → Accepted b s
 checked-read b s ReadService.Refused l f g q = absurd (let v : _≡_ {A = ℕ} 0 1 = cc in omega arith)
 checked-read b s (ReadService.Read x) l f g q = formed-read b s x (wellFormed x) l f g refl q
 
-first-read : (b : List ℕ) (s : Service) (t : Bool) → length b ≡ 67 → eqb (getD b 0 0) 1 ≡ t
+first-read : (b : List ℕ) (s : Service) (t : Bool) → length b ≡ serviceLength → eqb (getD b 0 0) 1 ≡ t
     → cond t (checked (partsFrom b)) ReadService.Refused ≡ ReadService.Read s → Accepted b s
 first-read b s true l e q = checked-read b s (partsFrom b) l (eqb-true (getD b 0 0) 1 e) refl q
 first-read b s false l e q = absurd (let v : _≡_ {A = ℕ} 0 1 = cc in omega arith)
 
-size-read : (b : List ℕ) (s : Service) (t : Bool) → eqb (length b) 67 ≡ t
+size-read : (b : List ℕ) (s : Service) (t : Bool) → eqb (length b) serviceLength ≡ t
     → cond t (cond (eqb (getD b 0 0) 1) (checked (partsFrom b)) ReadService.Refused) ReadService.Refused ≡ ReadService.Read s
     → Accepted b s
-size-read b s true e q = first-read b s (eqb (getD b 0 0) 1) (eqb-true (length b) 67 e) refl q
+size-read b s true e q = first-read b s (eqb (getD b 0 0) 1) (eqb-true (length b) serviceLength e) refl q
 size-read b s false e q = absurd (let v : _≡_ {A = ℕ} 0 1 = cc in omega arith)
 
 accepted : (b : List ℕ) (s : Service) → serviceFrom b ≡ ReadService.Read s → Accepted b s
 unfolding serviceFrom
-accepted b s q = size-read b s (eqb (length b) 67) refl q
+accepted b s q = size-read b s (eqb (length b) serviceLength) refl q
 
 -- what was read was written so
 
@@ -283,10 +284,10 @@ bytesOf f g n d p k a w x y z =
     ++ ((shownBytes d ++ (p ∷ k ∷ []))
     ++ (standingBytes a ++ (taggedBytes w ++ (tripleBytes x ++ (taggedBytes y ++ tripleBytes z)))))
 
-in-order : (b : List ℕ) → length b ≡ 67
+in-order : (b : List ℕ) → length b ≡ serviceLength
     → b
     ≡ bytesOf (getD b 0 0) (registeredAt b 1) (quadAt b 20) (shownAt b 24) (getD b 35 0) (getD b 36 0) (standingAt b 37) (taggedAt b 47) (tripleAt b 54) (taggedAt b 57) (tripleAt b 64)
-in-order b e = sym (gets-all b 67 e)
+in-order b e = sym (gets-all b serviceLength e)
 
 pub service-write-read : (b : List ℕ) (s : Service) → AllBytes b → serviceFrom b ≡ ReadService.Read s → serviceBytes s ≡ b
 unfolding serviceBytes

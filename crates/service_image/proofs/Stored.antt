@@ -5,6 +5,7 @@ use mathlib.Core.List.{List}
 use Prim.Native.Nat.{ℕ}
 use lib.ListN.{length}
 use lib.Seq.{sets}
+use Rattle.power_policy_interface.specs.Limits.{serviceLength}
 use Rattle.image.proofs.Places.{sets-all}
 use Rattle.service.specs.declared.Service.{Service}
 use Rattle.service_groups.specs.Registration.{headBytes}
@@ -13,11 +14,11 @@ use Rattle.service_groups.specs.Phase.{phaseBytes}
 use Rattle.service_groups.specs.Notices.{noticesBytes}
 use Rattle.service_image.specs.Image.{serviceBytes}
 
-pub service-length : (s : Service) → length (serviceBytes s) ≡ 67
+pub service-length : (s : Service) → length (serviceBytes s) ≡ serviceLength
 unfolding serviceBytes
 service-length s = refl
 
-pub stored : (s : Service) (o : List ℕ) → length o ≡ 67
+pub stored : (s : Service) (o : List ℕ) → length o ≡ serviceLength
     → sets (sets (sets (sets o 0 (headBytes (s .registration) (s .number))) 24 (heldBytes (s .memory .state) (s .orders))) 37 (phaseBytes (s .phase))) 47
     (noticesBytes (s .memory .notices))
     ≡ serviceBytes s

@@ -5,6 +5,7 @@ use mathlib.Core.Bool.{cond}
 use mathlib.Core.List.{List, _++_}
 use lib.Dec.{eqb}
 use lib.ListN.{length, getD}
+use Rattle.power_policy_interface.specs.Limits.{serviceLength}
 use Rattle.image.specs.Quad.{quadAt, numberFrom}
 use Rattle.image.specs.Shown.{shownAt}
 use Rattle.service.specs.declared.Service.{Service}
@@ -49,4 +50,4 @@ checked (ReadService.Read s) = cond (wellFormed s) (ReadService.Read s) ReadServ
 
 unfoldable pub serviceFrom : List ℕ → ReadService
 serviceFrom b =
-    cond (eqb (length b) 67) (cond (eqb (getD b 0 0) 1) (checked (partsFrom b)) ReadService.Refused) ReadService.Refused
+    cond (eqb (length b) serviceLength) (cond (eqb (getD b 0 0) 1) (checked (partsFrom b)) ReadService.Refused) ReadService.Refused

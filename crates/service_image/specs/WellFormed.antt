@@ -2,10 +2,11 @@
 use Prim.Native.Nat.{ℕ, _+_, _*_, _^_}
 use mathlib.Core.Bool.{Bool, true, false, not, _&&_, _||_}
 use lib.Dec.{leb, ltb}
+use Rattle.power_policy_interface.specs.Limits.{maxPorts, maxChargers}
 use Rattle.power_policy_interface.specs.declared.psu.Error.{Error}
 use Rattle.power_policy_interface.specs.declared.psu.OptionMismatch.{OptionMismatch}
 use Rattle.power_policy_interface.specs.declared.psu.Result.{Result}
-use Rattle.display.specs.Providers.{len}
+use Rattle.display.specs.Providers.{len, maxConnectedProviders}
 use Rattle.display.specs.declared.OptionAvailableConsumer.{OptionAvailableConsumer}
 use Rattle.display.specs.declared.providers.Providers.{Providers}
 use Rattle.abstract_policy.specs.declared.state.InternalState.{InternalState}
@@ -22,7 +23,7 @@ use Rattle.service.specs.declared.Service.{Service}
 
 -- at most 16 ports and 8 chargers
 abbrev pub registrationFits : Registration → Bool
-registrationFits g = leb (g .ports) 16 && leb (g .chargers) 8
+registrationFits g = leb (g .ports) maxPorts && leb (g .chargers) maxChargers
 
 -- what is held: every port is registered, and at most four are tracked
 
@@ -31,7 +32,7 @@ consumerFits ports OptionAvailableConsumer.None = true
 consumerFits ports (OptionAvailableConsumer.Some c) = ltb (c .psu) ports
 
 abbrev pub providersFit : ℕ → Providers → Bool
-providersFit ports t = ltb (t .mask) (2 ^ ports) && leb (len t) 4
+providersFit ports t = ltb (t .mask) (2 ^ ports) && leb (len t) maxConnectedProviders
 
 abbrev pub stateFits : ℕ → InternalState → Bool
 stateFits ports s =

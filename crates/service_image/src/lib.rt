@@ -6,6 +6,7 @@ use crate::well_formed::well_formed;
 use event::memory::Memory;
 use image::place;
 use image::quad::Quad;
+use power_policy_interface::limits::SERVICE_IMAGE;
 use service::Service;
 use service_groups::notices::ReadNotices;
 use service_groups::notices::put_notices;
@@ -23,6 +24,7 @@ ghost use mathlib.Core.Path.{_≡_};
 ghost use mathlib.Core.Bool.{cond};
 ghost use lib.Dec.{eqb};
 ghost use lib.ListN.{length};
+ghost use Rattle.power_policy_interface.specs.Limits.{serviceLength};
 ghost use Rattle.service_image.specs.Image.{serviceBytes, partsFrom, serviceFrom};
 
 // What reading an image finds.
@@ -63,7 +65,7 @@ fn parts(image: &[u8]) -> ReadService
 pub fn read(image: &[u8]) -> ReadService
     ensures { λ r. ⌜ r ≡ serviceFrom (now (image .entry)) ⌝ }
 {
-    if image.len() != 67 {
+    if image.len() != SERVICE_IMAGE {
         return ReadService::Refused;
     }
     if image[0] != 1 {
@@ -80,9 +82,9 @@ pub fn read(image: &[u8]) -> ReadService
 
 // Writes the image of a service; bytes of another length than 67 stay.
 pub fn write(image: &mut [u8], s: Service)
-    ensures { λ r. ⌜ now (image .exit) ≡ cond (eqb (length (now (image .entry))) 67) (serviceBytes s) (now (image .entry)) ⌝ }
+    ensures { λ r. ⌜ now (image .exit) ≡ cond (eqb (length (now (image .entry))) serviceLength) (serviceBytes s) (now (image .entry)) ⌝ }
 {
-    if image.len() != 67 {
+    if image.len() != SERVICE_IMAGE {
         return;
     }
     let registration = s.registration;

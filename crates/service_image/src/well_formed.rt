@@ -10,6 +10,8 @@ use event::memory::UnconstrainedNotice;
 use event::phase::Leaver;
 use event::phase::Phase;
 use event::phase::Stage;
+use power_policy_interface::limits::MAX_CHARGERS;
+use power_policy_interface::limits::MAX_PORTS;
 use power_policy_interface::psu;
 use service::Service;
 use service::refusals::is_waiting;
@@ -19,10 +21,10 @@ ghost use Rattle.service_image.specs.WellFormed.{registrationFits, consu
 fn registration_fits(g: Registration) -> bool
     ensures { λ r. ⌜ r ≡ registrationFits g ⌝ }
 {
-    if 16 < g.ports {
+    if MAX_PORTS < g.ports {
         return false;
     }
-    g.chargers <= 8
+    g.chargers <= MAX_CHARGERS
 }
 
 fn consumer_fits(ports: u8, c: OptionAvailableConsumer) -> bool
@@ -39,13 +41,13 @@ fn providers_fit(ports: u8, t: Providers) -> bool
     ensures { λ r. ⌜ r ≡ providersFit ports t ⌝ }
 {
     let mask = t.mask as u32;
-    if 16 <= ports {
-        return t.len() <= 4;
+    if MAX_PORTS <= ports {
+        return t.len() <= MAX_CONNECTED_PROVIDERS;
     }
     if mask >> ports != 0 {
         return false;
     }
-    t.len() <= 4
+    t.len() <= MAX_CONNECTED_PROVIDERS
 }
 
 fn state_fits(ports: u8, s: InternalState) -> bool

@@ -4,6 +4,8 @@ use display::notices::Notices;
 use display::packet::EventPacket;
 use display::packet::Picture;
 use power_policy_interface::capability::PowerCapability;
+use power_policy_interface::limits::BUFFER;
+use power_policy_interface::limits::MAX_PORTS;
 use power_policy_interface::service::event::Event;
 use wire::number;
 ghost use mathlib.Core.Path.{_≡_};
@@ -138,7 +140,7 @@ fn put_ports(out: &mut [u8], at: usize, mask: u16) -> usize
     let mut next = at;
     let mut left = mask;
     let mut i: u8 = 0;
-    while i < 16 {
+    while i < MAX_PORTS {
         if left % 2 == 1 {
             out[next] = i;
             next += 1;
@@ -153,7 +155,7 @@ fn put_ports(out: &mut [u8], at: usize, mask: u16) -> usize
 pub fn write_event(p: EventPacket, out: &mut [u8]) -> Written
     ensures { λ r. ⌜ (r ≡ writtenOf (eventBytes p) (now (out .entry))) × (now (out .exit) ≡ stored (eventBytes p) (now (out .entry))) ⌝ }
 {
-    if out.len() < 64 {
+    if out.len() < BUFFER {
         return Written::Refused(29);
     }
     let notices = p.notices;
@@ -169,7 +171,7 @@ pub fn write_event(p: EventPacket, out: &mut [u8]) -> Written
 pub fn write_picture(p: Picture, out: &mut [u8]) -> Written
     ensures { λ r. ⌜ (r ≡ writtenOf (pictureBytes p) (now (out .entry))) × (now (out .exit) ≡ stored (pictureBytes p) (now (out .entry))) ⌝ }
 {
-    if out.len() < 64 {
+    if out.len() < BUFFER {
         return Written::Refused(29);
     }
     let display = p.display;
