@@ -5,7 +5,7 @@ Compares the C functions as they are written in four places: the Rattle source t
 the Rust crate's declarations, and the safe functions around these with what they hand on. Names, order, names and types of the arguments and the
 result's type must be equal. docs/STATE.md must name the same functions; header and Rust crate must have the same lengths and refusals. The
 milliseconds of a wait must be the same in header, Rust crate, the definition (crates/abstract_calls/specs/Numbers.antt) and the Rattle
-that an order's number is made by (crates/calls/src/numbers.rt).
+that an order's number is made by (crates/bytes_calls/src/numbers.rt).
 Then each text is changed in several ways, and each change must be found. Its last line is 'N passed, M failed'.
 """
 
@@ -279,7 +279,7 @@ def main():
         "reply": ROOT / "rust/power_policy/src/reply.rs",
         "state": ROOT / "docs/STATE.md",
         "definition": ROOT / "crates/abstract_calls/specs/Numbers.antt",
-        "numbers": ROOT / "crates/calls/src/numbers.rt",
+        "numbers": ROOT / "crates/bytes_calls/src/numbers.rt",
     }
     missing = [str(path) for path in files.values() if not path.is_file()]
     if missing:

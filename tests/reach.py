@@ -3,18 +3,15 @@
 
 What a reader has to read to believe the record NAME of FILE (Promise of crates/promise/specs/Promise.antt): every definition that it cites, and those cite, in
 this repository. Writes the files by crate, with their lines and how many of these are of definitions that are cited; then which files are the machine's, which the claim must not cite; and the sums, which the reading order of README.md has. Its last line is 'N passed, M failed'.
-A file is the machine's if its crate is one of MACHINE. A type that is declared in code (`specs.declared`) is counted with the source that declares it.
+A file is the machine's if its crate's name says such a room (MACHINE). A type that is declared in code (`specs.declared`) is counted with the source that declares it.
 """
 import os
 import re
 import sys
 
 ROOT = os.path.dirname(os.path.dirname(os.path.abspath(__file__)))
-# Crates that hold how the machine does it: states, phases, steps, images, the calls on them, the ring of the follower, and the proofs about these.
-MACHINE = {
-    "event", "update", "process", "service", "send", "interaction", "run", "invariant", "follower", "image", "service_groups", "service_image", "follower_image",
-    "follower_in_place", "calls", "service_calls", "follower_calls", "exported", "power_policy", "run_image",
-}
+# Rooms that hold how the machine does it: states, phases, steps, images, the calls on them, the ring of the follower, and the proofs about these.
+MACHINE = re.compile(r"(machine|desk|bytes|abi|promise)_|power_policy$")
 USE = re.compile(r"^use Rattle·(\w+)(?:·specs)?\.specs\.([\w.]+?)(?:\.\{([^}]*)\}| as (\w+))?$")
 HEAD = re.compile(r"^(?:abbrev |unfoldable )?(?:pub )?(?:record |data )?(?:infix.* )?([^\s:()]+)\s.*(?::|where)")
 WORD = re.compile(r"[^\s(){}\[\];,.:«»]+")
@@ -137,7 +134,7 @@ def main():
     for path in specs:
         print("%5d lines, %4d of what is cited: %s" % (modules[path].lines, cited[path], path))
     crates = {path.split("/")[1] for path in cited}
-    machine = sorted(path for path in cited if path.split("/")[1] in MACHINE)
+    machine = sorted(path for path in cited if MACHINE.match(path.split("/")[1]))
     for path in machine:
         print("the machine's: %s" % path)
     print("%d files of definitions, %d lines, %d of them of definitions that are cited; %d crates; the machine's: %d" % (

@@ -3,7 +3,7 @@ use mathlib.Core.List.{List, [], _∷_, _++_, append-assoc}
 use mathlib.Core.Path.{_≡_, refl, sym, ap, _∙_}
 use Prim.Native.Nat.{ℕ, zero, suc}
 use lib.Dec.{lit<}
-use Rattle.records.specs.Row.{AllBytes}
+use Rattle.interface_records.specs.Row.{AllBytes}
 use Rattle.abstract_desk.specs.Takes.{EachBytes}
 use Rattle.abstract_calls.specs.Calls.{CallBytes, CallsBytes, imageAfter, images, deskAfter, desks, packetsOf, DeskBytes}
 use Rattle.abstract_calls.specs.DeskCall.{DeskCall, deskCall}

@@ -25,13 +25,13 @@ use Rattle.power_policy_interface.specs.declared.psu.Result.{Result}
 use Rattle.power_policy_interface.specs.declared.psu.StateKind.{StateKind}
 use Rattle.power_policy_interface.specs.declared.service.UnconstrainedState.{UnconstrainedState}
 use Rattle.power_policy_interface.proofs.OneByte.{consumer-injective, consumer-read-write, provider-read-write, answer-read-write}
-use Rattle.display.specs.Providers.{len, ones}
-use Rattle.display.specs.declared.AvailableConsumer.{AvailableConsumer}
-use Rattle.display.specs.declared.Display.{Display}
-use Rattle.display.specs.declared.OptionAvailableConsumer.{OptionAvailableConsumer}
-use Rattle.display.specs.declared.providers.Providers.{Providers}
-use Rattle.display.specs.declared.State.{State}
-use Rattle.display.proofs.Count.{ones-le}
+use Rattle.interface_display.specs.Providers.{len, ones}
+use Rattle.interface_display.specs.declared.AvailableConsumer.{AvailableConsumer}
+use Rattle.interface_display.specs.declared.Display.{Display}
+use Rattle.interface_display.specs.declared.OptionAvailableConsumer.{OptionAvailableConsumer}
+use Rattle.interface_display.specs.declared.providers.Providers.{Providers}
+use Rattle.interface_display.specs.declared.State.{State}
+use Rattle.interface_display.proofs.Count.{ones-le}
 use Rattle.abstract_policy.specs.declared.order.Order.{Order}
 use Rattle.abstract_calls.specs.Numbers.{packed, waitMs, refusedNumber, bareOrder, capabilityOrder, orderNumber, closedNumber, writtenNumber, doneNumber, stateNumber, lostNumber, shownNumber, consumerNumber, trackedNumber}
 use Rattle.abstract_calls.specs.OneToOne.{CapabilityFits, OrderFits, MismatchFits, AnswerFits, ConsumerFits, ProvidersFit, DisplayFits, Outcomes, OneToOne}

@@ -12,10 +12,10 @@ use Rattle.power_policy_interface.specs.declared.capability.OptionConsumerFlags
 use Rattle.power_policy_interface.specs.declared.capability.OptionDisconnectFlags.{OptionDisconnectFlags}
 use Rattle.power_policy_interface.specs.declared.capability.OptionProviderFlags.{OptionProviderFlags}
 use Rattle.power_policy_interface.specs.declared.service.event.Event.{Event}
-use Rattle.display.specs.Notices.{empty, pushed}
-use Rattle.display.specs.declared.OptionAvailableConsumer.{OptionAvailableConsumer}
-use Rattle.display.specs.declared.notices.Notices.{Notices}
-use Rattle.display.specs.declared.packet.Packet.{Packet}
+use Rattle.interface_display.specs.Notices.{empty, pushed}
+use Rattle.interface_display.specs.declared.OptionAvailableConsumer.{OptionAvailableConsumer}
+use Rattle.interface_display.specs.declared.notices.Notices.{Notices}
+use Rattle.interface_display.specs.declared.packet.Packet.{Packet}
 use Rattle.abstract_policy.specs.Refusals.{firstRefused}
 use Rattle.abstract_policy.proofs.First.{first}
 use Rattle.wire.specs.Number.{digitBefore, digitsRead, within, readNumber}

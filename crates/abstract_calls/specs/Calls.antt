@@ -3,7 +3,7 @@ use Prim.Native.Nat.{ℕ, _/_, _%_}
 use mathlib.Core.List.{List, [], _∷_, _++_}
 use mathlib.Core.Path.{_≡_}
 use lib.ListN.{take}
-use Rattle.records.specs.Row.{AllBytes}
+use Rattle.interface_records.specs.Row.{AllBytes}
 use Rattle.abstract_desk.specs.Takes.{EachBytes}
 use Rattle.abstract_calls.specs.DeskCall.{DeskCall, deskCall}
 use Rattle.abstract_calls.specs.Functions.{Functions}

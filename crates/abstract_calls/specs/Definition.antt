@@ -6,7 +6,7 @@ use mathlib.Core.Path.{_≡_}
 use lib.Dec.{eqb}
 use lib.ListN.{length}
 use Rattle.power_policy_interface.specs.Limits.{serviceLength}
-use Rattle.display.specs.declared.Display.{Display}
+use Rattle.interface_display.specs.declared.Display.{Display}
 use Rattle.power_policy_service.specs.declared.config.OptionConfig.{OptionConfig}
 use Rattle.abstract_policy.specs.Refusals.{firstRefused, First, startRefusals}
 use Rattle.abstract_policy.specs.Action.{ask}

@@ -2,10 +2,10 @@
 use Prim.Native.Nat.{ℕ}
 use mathlib.Core.Bool.{_&&_}
 use mathlib.Core.List.{List}
-use Rattle.records.specs.Charger.{chargerRow}
-use Rattle.records.specs.Psu.{psuRow}
-use Rattle.records.specs.declared.charger.Row as charger
-use Rattle.records.specs.declared.psu.Row as psu
+use Rattle.interface_records.specs.Charger.{chargerRow}
+use Rattle.interface_records.specs.Psu.{psuRow}
+use Rattle.interface_records.specs.declared.charger.Row as charger
+use Rattle.interface_records.specs.declared.psu.Row as psu
 use Rattle.abstract_policy.specs.declared.state.Registration.{Registration}
 use Rattle.abstract_policy.specs.declared.outcome.SentPacket.{SentPacket}
 use Rattle.abstract_policy.specs.declared.outcome.SentPicture.{SentPicture}

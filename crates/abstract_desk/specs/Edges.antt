@@ -3,7 +3,7 @@ use Prim.Native.Nat.{ℕ}
 use mathlib.Core.List.{List, [], _∷_}
 use mathlib.Core.Option.{Option, none, some}
 use mathlib.Core.Path.{_≡_}
-use Rattle.display.specs.declared.State.{State}
+use Rattle.interface_display.specs.declared.State.{State}
 use Rattle.wire.specs.Read.{readPacket}
 use Rattle.abstract_desk.specs.Follower.{Follower, lost, showing, fresh, state}
 use Rattle.abstract_desk.specs.Takes.{readBy}

@@ -1,17 +1,17 @@
 -- The follower of document 01, "Packets and follower", sentence by sentence. How a program keeps the packets that wait is no part of it; that ours does the
--- same is link specs/Alike.antt.
+-- same is promise_link specs/Alike.antt.
 use Prim.Native.Nat.{ℕ, _+_, max}
 use mathlib.Core.Bool.{cond}
 use mathlib.Core.List.{List, [], _∷_}
 use mathlib.Core.Option.{Option, none, some}
 use lib.Dec.{eqb, leb, ltb}
 use Rattle.power_policy_interface.specs.Limits.{window}
-use Rattle.display.specs.Notices.{allApplied}
-use Rattle.display.specs.declared.Display.{Display}
-use Rattle.display.specs.declared.packet.EventPacket.{EventPacket}
-use Rattle.display.specs.declared.packet.Packet.{Packet}
-use Rattle.display.specs.declared.packet.Picture.{Picture}
-use Rattle.display.specs.declared.State.{State}
+use Rattle.interface_display.specs.Notices.{allApplied}
+use Rattle.interface_display.specs.declared.Display.{Display}
+use Rattle.interface_display.specs.declared.packet.EventPacket.{EventPacket}
+use Rattle.interface_display.specs.declared.packet.Packet.{Packet}
+use Rattle.interface_display.specs.declared.packet.Picture.{Picture}
+use Rattle.interface_display.specs.declared.State.{State}
 
 -- lost with a floor; or showing n, with its display and the event packets that wait, in rising order of their numbers
 pub data Follower : Type 0 where

@@ -1,7 +1,7 @@
 -- Takes of the follower on bytes: those that are turned back change nothing.
 use Prim.Native.Nat.{ℕ}
 use mathlib.Core.List.{List, [], _∷_}
-use Rattle.records.specs.Row.{AllBytes}
+use Rattle.interface_records.specs.Row.{AllBytes}
 use Rattle.wire.specs.Read.{readPacket}
 use Rattle.wire.specs.declared.packet.ReadPacket.{ReadPacket}
 use Rattle.abstract_desk.specs.Follower.{Follower, fresh, taken}

@@ -15,10 +15,10 @@ use Rattle.power_policy_interface.specs.declared.capability.ProviderPowerCapabi
 use Rattle.power_policy_interface.specs.declared.psu.Result.{Result}
 use Rattle.power_policy_interface.specs.declared.psu.event.EventData.{EventData}
 use Rattle.power_policy_interface.specs.declared.service.event.Event.{Event}
-use Rattle.display.specs.Providers.{insertOf, removeOf}
-use Rattle.display.specs.declared.AvailableConsumer.{AvailableConsumer}
-use Rattle.display.specs.declared.OptionAvailableConsumer.{OptionAvailableConsumer}
-use Rattle.display.specs.declared.providers.Removed.{Removed}
+use Rattle.interface_display.specs.Providers.{insertOf, removeOf}
+use Rattle.interface_display.specs.declared.AvailableConsumer.{AvailableConsumer}
+use Rattle.interface_display.specs.declared.OptionAvailableConsumer.{OptionAvailableConsumer}
+use Rattle.interface_display.specs.declared.providers.Removed.{Removed}
 use Rattle.power_policy_service.specs.Provider.{totalOf, totalWith, powerStateOf, grantOf}
 use Rattle.abstract_policy.specs.State.{withConsumer, withUnconstrained, withProviders, withPowerState, psuOf, chargerUnpowered}
 use Rattle.abstract_policy.specs.Interaction.{noReason, detachedReason, reasonOf, unconstrainedOf, sameAvailable, isConnectedConsumer, updateUnconstrainedState, attachCharger, postConsumerConnected, detachCharger, disconnectChargers, disconnectCurrent, connectConsumer, connectNewConsumer, connectBest, findBestConsumer, updateCurrentConsumer, postProviderConnected, provide, connectProvider, removeProvider, postProviderRemoved, processPsuEvent, close, event}

@@ -10,13 +10,13 @@ use Rattle.power_policy_interface.specs.declared.capability.OptionProviderPower
 use Rattle.power_policy_interface.specs.declared.capability.ProviderPowerCapability.{ProviderPowerCapability}
 use Rattle.power_policy_interface.specs.declared.psu.event.EventData.{EventData}
 use Rattle.power_policy_interface.specs.declared.service.event.Event.{Event}
-use Rattle.display.specs.Display.{setConsumer, setUnconstrained, setProviders, appliedTo}
-use Rattle.display.specs.Notices.{appliedAll}
-use Rattle.display.specs.Providers.{insertOf, removeOf}
-use Rattle.display.specs.declared.AvailableConsumer.{AvailableConsumer}
-use Rattle.display.specs.declared.Display.{Display}
-use Rattle.display.specs.declared.OptionAvailableConsumer.{OptionAvailableConsumer}
-use Rattle.display.specs.declared.providers.Providers.{Providers}
+use Rattle.interface_display.specs.Display.{setConsumer, setUnconstrained, setProviders, appliedTo}
+use Rattle.interface_display.specs.Notices.{appliedAll}
+use Rattle.interface_display.specs.Providers.{insertOf, removeOf}
+use Rattle.interface_display.specs.declared.AvailableConsumer.{AvailableConsumer}
+use Rattle.interface_display.specs.declared.Display.{Display}
+use Rattle.interface_display.specs.declared.OptionAvailableConsumer.{OptionAvailableConsumer}
+use Rattle.interface_display.specs.declared.providers.Providers.{Providers}
 use Rattle.power_policy_service.specs.Provider.{totalOf, totalWith, powerStateOf, grantOf}
 use Rattle.power_policy_service.specs.declared.provider.PowerState.{PowerState}
 use Rattle.abstract_policy.specs.State.{withConsumer, withProviders, withPowerState, psuOf, displayOf}

@@ -11,10 +11,10 @@ use Rattle.power_policy_interface.specs.declared.capability.DisconnectFlags.{Di
 use Rattle.power_policy_interface.specs.declared.psu.event.EventData.{EventData}
 use Rattle.power_policy_interface.specs.declared.service.event.Event.{Event}
 use Rattle.power_policy_interface.proofs.Same.{consumer-eq}
-use Rattle.display.specs.Providers.{removeOf}
-use Rattle.display.specs.declared.AvailableConsumer.{AvailableConsumer}
-use Rattle.display.specs.declared.OptionAvailableConsumer.{OptionAvailableConsumer}
-use Rattle.display.specs.declared.providers.Removed.{Removed}
+use Rattle.interface_display.specs.Providers.{removeOf}
+use Rattle.interface_display.specs.declared.AvailableConsumer.{AvailableConsumer}
+use Rattle.interface_display.specs.declared.OptionAvailableConsumer.{OptionAvailableConsumer}
+use Rattle.interface_display.specs.declared.providers.Removed.{Removed}
 use Rattle.power_policy_service.specs.Consumer.{bestOf}
 use Rattle.power_policy_service.specs.Provider.{totalOf, powerStateOf}
 use Rattle.abstract_policy.specs.State.{withConsumer, withProviders, withPowerState}

@@ -8,7 +8,7 @@ use native.Mathlib.Omega.{arith}
 use lib.Dec.{eqb}
 use borrow.Author.Tests.{eqb-true}
 use Rattle.power_policy_interface.specs.declared.psu.Result.{Result}
-use Rattle.display.specs.declared.OptionAvailableConsumer.{OptionAvailableConsumer}
+use Rattle.interface_display.specs.declared.OptionAvailableConsumer.{OptionAvailableConsumer}
 use Rattle.power_policy_service.specs.Choice.{Chosen}
 use Rattle.power_policy_service.specs.Consumer.{bestOf}
 use Rattle.power_policy_service.proofs.Choice.{chosen}

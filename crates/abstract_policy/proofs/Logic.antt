@@ -10,8 +10,8 @@ use Rattle.power_policy_interface.specs.declared.capability.DisconnectFlags.{Di
 use Rattle.power_policy_interface.specs.declared.psu.Result.{Result}
 use Rattle.power_policy_interface.specs.declared.service.UnconstrainedState.{UnconstrainedState}
 use Rattle.power_policy_interface.specs.declared.service.event.Event.{Event}
-use Rattle.display.specs.declared.AvailableConsumer.{AvailableConsumer}
-use Rattle.display.specs.declared.OptionAvailableConsumer.{OptionAvailableConsumer}
+use Rattle.interface_display.specs.declared.AvailableConsumer.{AvailableConsumer}
+use Rattle.interface_display.specs.declared.OptionAvailableConsumer.{OptionAvailableConsumer}
 use Rattle.abstract_policy.specs.State.{withConsumer, withUnconstrained, psuOf, chargerUnpowered}
 use Rattle.abstract_policy.specs.Interaction.{reasonOf, unconstrainedOf, isConnectedConsumer, updateUnconstrainedState, attachCharger, postConsumerConnected, detachCharger, disconnectChargers, disconnectCurrent, connectConsumer}
 use Rattle.abstract_policy.specs.Action.{Held, Interaction, done, Action, _>>=_, _>>_, skip, records, set, notify, await, ok, chargerOk, charger, psu, when, unless, each}

@@ -23,7 +23,7 @@ use Rattle.power_policy_interface.specs.declared.psu.Result.{Result}
 use Rattle.power_policy_interface.specs.declared.psu.State.{State}
 use Rattle.power_policy_interface.specs.declared.psu.event.EventData.{EventData}
 use Rattle.power_policy_interface.specs.declared.service.event.Event.{Event}
-use Rattle.display.specs.declared.OptionAvailableConsumer.{OptionAvailableConsumer}
+use Rattle.interface_display.specs.declared.OptionAvailableConsumer.{OptionAvailableConsumer}
 use Rattle.power_policy_service.specs.Config.{rustDefault}
 use Rattle.power_policy_service.specs.Consumer.{available}
 use Rattle.power_policy_service.specs.declared.provider.PowerState.{PowerState}

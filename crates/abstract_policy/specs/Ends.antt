@@ -4,9 +4,9 @@ use mathlib.Core.Bool.{Bool, true, false}
 use mathlib.Core.Path.{_≡_}
 use Rattle.power_policy_interface.specs.declared.psu.Result.{Result}
 use Rattle.power_policy_interface.specs.declared.psu.event.EventData.{EventData}
-use Rattle.display.specs.Notices.{appliedAll}
-use Rattle.display.specs.declared.Display.{Display}
-use Rattle.display.specs.declared.OptionAvailableConsumer.{OptionAvailableConsumer}
+use Rattle.interface_display.specs.Notices.{appliedAll}
+use Rattle.interface_display.specs.declared.Display.{Display}
+use Rattle.interface_display.specs.declared.OptionAvailableConsumer.{OptionAvailableConsumer}
 use Rattle.abstract_policy.specs.Action.{Held, Interaction, done, ask}
 use Rattle.abstract_policy.specs.State.{displayOf}
 use Rattle.abstract_policy.specs.declared.state.Records.{Records}

@@ -21,10 +21,10 @@ use Rattle.power_policy_interface.specs.declared.capability.OptionDisconnectRea
 use Rattle.power_policy_interface.specs.declared.psu.PsuState.{PsuState}
 use Rattle.power_policy_interface.specs.declared.psu.State.{State}
 use Rattle.power_policy_interface.specs.declared.service.UnconstrainedState.{UnconstrainedState}
-use Rattle.display.specs.Providers.{insertOf, removeOf}
-use Rattle.display.specs.declared.AvailableConsumer.{AvailableConsumer}
-use Rattle.display.specs.declared.OptionAvailableConsumer.{OptionAvailableConsumer}
-use Rattle.display.specs.declared.providers.Removed.{Removed}
+use Rattle.interface_display.specs.Providers.{insertOf, removeOf}
+use Rattle.interface_display.specs.declared.AvailableConsumer.{AvailableConsumer}
+use Rattle.interface_display.specs.declared.OptionAvailableConsumer.{OptionAvailableConsumer}
+use Rattle.interface_display.specs.declared.providers.Removed.{Removed}
 use Rattle.power_policy_service.specs.Consumer.{bestOf}
 use Rattle.power_policy_service.specs.Provider.{totalOf, totalWith, powerStateOf, grantOf}
 use Rattle.abstract_policy.specs.State.{withConsumer, withUnconstrained, withProviders, withPowerState, psuOf, chargerUnpowered}

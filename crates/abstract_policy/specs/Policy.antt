@@ -5,7 +5,7 @@ use mathlib.Core.List.{List, [], _∷_, _++_}
 use lib.Dec.{eqb}
 use Rattle.power_policy_interface.specs.declared.psu.Result.{Result}
 use Rattle.power_policy_interface.specs.declared.service.event.Event.{Event}
-use Rattle.display.specs.declared.Display.{Display}
+use Rattle.interface_display.specs.declared.Display.{Display}
 use Rattle.abstract_policy.specs.State.{freshState, displayOf}
 use Rattle.abstract_policy.specs.Refusals.{firstRefused, openConditions, noAnswer}
 use Rattle.abstract_policy.specs.Given.{eventOf, resultOf}

@@ -6,8 +6,8 @@ use lib.Dec.{eqb}
 use Rattle.power_policy_interface.specs.Psu.{answerByte}
 use Rattle.power_policy_interface.specs.declared.psu.Result.{Result}
 use Rattle.power_policy_interface.specs.declared.service.event.Event.{Event}
-use Rattle.display.specs.Notices.{empty, pushed}
-use Rattle.display.specs.declared.notices.Notices.{Notices}
+use Rattle.interface_display.specs.Notices.{empty, pushed}
+use Rattle.interface_display.specs.declared.notices.Notices.{Notices}
 use Rattle.abstract_policy.specs.Action.{Interaction, done, ask}
 use Rattle.abstract_policy.specs.Given.{eventOf, resultOf}
 use Rattle.abstract_policy.specs.Interaction.{event}

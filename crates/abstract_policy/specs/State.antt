@@ -6,10 +6,10 @@ use Rattle.power_policy_interface.specs.Limits.{maxPorts, maxChargers}
 use Rattle.power_policy_interface.specs.Charger.{isUnpowered}
 use Rattle.power_policy_interface.specs.declared.psu.State.{State}
 use Rattle.power_policy_interface.specs.declared.service.UnconstrainedState.{UnconstrainedState}
-use Rattle.display.specs.Providers.{none}
-use Rattle.display.specs.declared.Display.{Display}
-use Rattle.display.specs.declared.OptionAvailableConsumer.{OptionAvailableConsumer}
-use Rattle.display.specs.declared.providers.Providers.{Providers}
+use Rattle.interface_display.specs.Providers.{none}
+use Rattle.interface_display.specs.declared.Display.{Display}
+use Rattle.interface_display.specs.declared.OptionAvailableConsumer.{OptionAvailableConsumer}
+use Rattle.interface_display.specs.declared.providers.Providers.{Providers}
 use Rattle.power_policy_service.specs.Rows.{noPsu, psuAt, chargerAt}
 use Rattle.power_policy_service.specs.declared.provider.PowerState.{PowerState}
 use Rattle.abstract_policy.specs.declared.state.InternalState.{InternalState}

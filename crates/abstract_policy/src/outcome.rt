@@ -1,7 +1,7 @@
 // What a call brings about.
 use crate::order::Order;
-use display::packet::EventPacket;
-use display::packet::Picture;
+use interface_display::packet::EventPacket;
+use interface_display::packet::Picture;
 use power_policy_interface::psu;
 
 // Of an event or an answer.

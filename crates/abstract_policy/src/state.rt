@@ -1,7 +1,7 @@
 // What an event reads (the registration and the present records), and the state that it changes.
-use display::Display;
-use display::OptionAvailableConsumer;
-use display::providers::Providers;
+use interface_display::Display;
+use interface_display::OptionAvailableConsumer;
+use interface_display::providers::Providers;
 use power_policy_interface::capability::OptionConsumerPowerCapability;
 use power_policy_interface::capability::OptionProviderPowerCapability;
 use power_policy_interface::charger;

@@ -6,12 +6,12 @@ use Prim.Native.Nat.{ℕ, _+_, _-_, _≤_}
 use native.Mathlib.Omega.{arith}
 use lib.ListN.{length, take, drop, length-drop, drop-of-length-le}
 use lib.Seq.{slice, take-all, take-add, drop-drop, length-slice}
-use Rattle.report.specs.Desk.{steppedDesk, steppedNext}
-use Rattle.report.specs.Reads.{Turn, start, goOn, stop, afterTake, takeAll, readOn, reads}
-use Rattle.report.specs.declared.desk.Desk.{Desk}
-use Rattle.report.specs.declared.desk.Next.{Next}
-use Rattle.report.proofs.Lengths.{used-bounds}
-use Rattle.report.proofs.Whole.{take-step, kept-short}
+use Rattle.desk_report.specs.Desk.{steppedDesk, steppedNext}
+use Rattle.desk_report.specs.Reads.{Turn, start, goOn, stop, afterTake, takeAll, readOn, reads}
+use Rattle.desk_report.specs.declared.desk.Desk.{Desk}
+use Rattle.desk_report.specs.declared.desk.Next.{Next}
+use Rattle.desk_report.proofs.Lengths.{used-bounds}
+use Rattle.desk_report.proofs.Whole.{take-step, kept-short}
 use Rattle.follow.specs.Took.{left, Took, Read, Stands, moved}
 use Rattle.follow.specs.declared.Go.{Go}
 use Rattle.follow.proofs.Moves.{moved-front, moved-length}

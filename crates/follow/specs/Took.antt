@@ -4,8 +4,8 @@ use mathlib.Core.Path.{_≡_}
 use mathlib.Core.List.{List, [], _++_}
 use lib.ListN.{drop}
 use lib.Seq.{slice}
-use Rattle.report.specs.Reads.{Turn, start, goOn, stop, takeAll, reads}
-use Rattle.report.specs.declared.desk.Desk.{Desk}
+use Rattle.desk_report.specs.Reads.{Turn, start, goOn, stop, takeAll, reads}
+use Rattle.desk_report.specs.declared.desk.Desk.{Desk}
 use Rattle.follow.specs.declared.Go.{Go}
 
 -- a turn, but for what was written

@@ -1,15 +1,15 @@
 // The program `follow` of document 01: packets on standard input, each after its length, and a line for each on standard output. What a
 // packet does and what its line says is the crate `report`'s; here bytes are read and lines written. Each function leaves what a turn of
 // report's Reads leaves; that such turns, over any reads, write `follow` of the whole input is report's theorem `run-is-follow`.
+use desk_report::desk::Desk;
+use desk_report::desk::Next;
 use libc::STDERR_FILENO;
 use libc::STDIN_FILENO;
 use libc::STDOUT_FILENO;
-use report::desk::Desk;
-use report::desk::Next;
 ghost use mathlib.Core.Path.{_≡_};
 ghost use Prim.Native.Nat.{_+_, _-_, _≤_, _<_};
 ghost use lib.ListN.{length, take, drop};
-ghost use Rattle.report.specs.Desk.{steppedDesk, steppedNext};
+ghost use Rattle.desk_report.specs.Desk.{steppedDesk, steppedNext};
 ghost use Rattle.follow.specs.Took.{Took, Read, moved};
 
 // A packet was taken; its line is written or standard output took no more.
@@ -207,7 +207,7 @@ fn run(input: &mut [u8])
 
 fn main() {
     let mut line = [0u8; 128];
-    let n = report::line::write_header(&mut line);
+    let n = desk_report::line::write_header(&mut line);
     if !io::write_all(STDOUT_FILENO, &line[..n]) {
         unwritten();
         return;

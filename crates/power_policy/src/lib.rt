@@ -3,7 +3,7 @@
 use power_policy_service::config::Config;
 ghost use mathlib.Core.Path.{_≡_};
 ghost use Rattle.abstract_calls.specs.Functions.{arguments};
-ghost use Rattle.exported.specs.Ours.{functions};
+ghost use Rattle.abi_functions.specs.Ours.{functions};
 
 // A fresh service with so many ports and chargers and this configuration, in bytes of any content and of an image's length.
 #[no_mangle]
@@ -31,7 +31,7 @@ pub extern "C" fn power_policy_start(
         minimum_present,
         minimum_mw,
     );
-    service_calls::start(image, config, ports, chargers)
+    bytes_service_calls::start(image, config, ports, chargers)
 }
 
 // An event of a kind from a port or a charger, with the present records: the first order, or how the event closed.
@@ -47,7 +47,7 @@ pub extern "C" fn power_policy_open(
     ensures { λ r. ⌜ r ≡ functions .open-event (now (image .entry)) (now (psus .entry)) (now (chargers .entry)) kind device detail .number ⌝ }
     ensures { λ _. ⌜ now (image .exit) ≡ functions .open-event (now (image .entry)) (now (psus .entry)) (now (chargers .entry)) kind device detail .bytes ⌝ }
 {
-    service_calls::open_event(image, psus, chargers, kind, device, detail)
+    bytes_service_calls::open_event(image, psus, chargers, kind, device, detail)
 }
 
 // The answer to the open order, with the present records: the next order, or how the event closed.
@@ -61,7 +61,7 @@ pub extern "C" fn power_policy_answer(
     ensures { λ r. ⌜ r ≡ functions .answer (now (image .entry)) (now (psus .entry)) (now (chargers .entry)) answer .number ⌝ }
     ensures { λ _. ⌜ now (image .exit) ≡ functions .answer (now (image .entry)) (now (psus .entry)) (now (chargers .entry)) answer .bytes ⌝ }
 {
-    service_calls::give_answer(image, psus, chargers, answer)
+    bytes_service_calls::give_answer(image, psus, chargers, answer)
 }
 
 // The open order, or how the event closed last.
@@ -69,7 +69,7 @@ pub extern "C" fn power_policy_answer(
 pub extern "C" fn power_policy_order(image: &[u8]) -> u64
     ensures { λ r. ⌜ r ≡ functions .order (now (image .entry)) ⌝ }
 {
-    service_calls::read_order(image)
+    bytes_service_calls::read_order(image)
 }
 
 // The packet of the event closed last, from the front of the buffer on.
@@ -78,7 +78,7 @@ pub extern "C" fn power_policy_write_packet(image: &[u8], buffer: &mut [u8]) -> 
     ensures { λ r. ⌜ r ≡ functions .write-packet (now (image .entry)) (now (buffer .entry)) .number ⌝ }
     ensures { λ _. ⌜ now (buffer .exit) ≡ functions .write-packet (now (image .entry)) (now (buffer .entry)) .bytes ⌝ }
 {
-    service_calls::write_packet(image, buffer)
+    bytes_service_calls::write_packet(image, buffer)
 }
 
 // The full picture of what is held, from the front of the buffer on.
@@ -87,7 +87,7 @@ pub extern "C" fn power_policy_write_picture(image: &[u8], buffer: &mut [u8]) ->
     ensures { λ r. ⌜ r ≡ functions .write-picture (now (image .entry)) (now (buffer .entry)) .number ⌝ }
     ensures { λ _. ⌜ now (buffer .exit) ≡ functions .write-picture (now (image .entry)) (now (buffer .entry)) .bytes ⌝ }
 {
-    service_calls::write_picture(image, buffer)
+    bytes_service_calls::write_picture(image, buffer)
 }
 
 // A fresh follower, in bytes of any content and of an image's length.
@@ -96,7 +96,7 @@ pub extern "C" fn power_policy_follower_start(image: &mut [u8]) -> u64
     ensures { λ r. ⌜ r ≡ functions .follower-start (now (image .entry)) .number ⌝ }
     ensures { λ _. ⌜ now (image .exit) ≡ functions .follower-start (now (image .entry)) .bytes ⌝ }
 {
-    follower_calls::start(image)
+    bytes_follower_calls::start(image)
 }
 
 // Hands a packet or picture to the follower.
@@ -105,7 +105,7 @@ pub extern "C" fn power_policy_follower_take(image: &mut [u8], packet: &[u8]) ->
     ensures { λ r. ⌜ r ≡ functions .take (now (image .entry)) (now (packet .entry)) .number ⌝ }
     ensures { λ _. ⌜ now (image .exit) ≡ functions .take (now (image .entry)) (now (packet .entry)) .bytes ⌝ }
 {
-    follower_calls::take(image, packet)
+    bytes_follower_calls::take(image, packet)
 }
 
 // Lost, or the number shown, whether level or waiting, and the unconstrained figures.
@@ -113,7 +113,7 @@ pub extern "C" fn power_policy_follower_take(image: &mut [u8], packet: &[u8]) ->
 pub extern "C" fn power_policy_follower_shown(image: &[u8]) -> u64
     ensures { λ r. ⌜ r ≡ functions .shown (now (image .entry)) ⌝ }
 {
-    follower_calls::shown(image)
+    bytes_follower_calls::shown(image)
 }
 
 // The consumer shown; none if lost.
@@ -121,7 +121,7 @@ pub extern "C" fn power_policy_follower_shown(image: &[u8]) -> u64
 pub extern "C" fn power_policy_follower_consumer(image: &[u8]) -> u64
     ensures { λ r. ⌜ r ≡ functions .consumer (now (image .entry)) ⌝ }
 {
-    follower_calls::consumer(image)
+    bytes_follower_calls::consumer(image)
 }
 
 // The ports shown as tracked; none if lost.
@@ -129,5 +129,5 @@ pub extern "C" fn power_policy_follower_consumer(image: &[u8]) -> u64
 pub extern "C" fn power_policy_follower_tracked(image: &[u8]) -> u64
     ensures { λ r. ⌜ r ≡ functions .tracked (now (image .entry)) ⌝ }
 {
-    follower_calls::tracked(image)
+    bytes_follower_calls::tracked(image)
 }

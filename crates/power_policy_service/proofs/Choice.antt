@@ -14,8 +14,8 @@ use Rattle.power_policy_interface.specs.declared.capability.ConsumerPowerCapabi
 use Rattle.power_policy_interface.specs.declared.capability.OptionConsumerPowerCapability.{OptionConsumerPowerCapability}
 use Rattle.power_policy_interface.specs.declared.psu.State.{State}
 use Rattle.power_policy_interface.proofs.Order.{cmp-less, cmp-greater, cmp-equal}
-use Rattle.display.specs.declared.AvailableConsumer.{AvailableConsumer}
-use Rattle.display.specs.declared.OptionAvailableConsumer.{OptionAvailableConsumer}
+use Rattle.interface_display.specs.declared.AvailableConsumer.{AvailableConsumer}
+use Rattle.interface_display.specs.declared.OptionAvailableConsumer.{OptionAvailableConsumer}
 use Rattle.power_policy_service.specs.Choice.{mw, Eligible, Best, Chosen}
 use Rattle.power_policy_service.specs.Consumer.{cmpConsumer, eligible, isCurrent, available, replaced, betterOf, bestOf}
 use Rattle.power_policy_service.specs.Rows.{psuAt}

@@ -9,7 +9,7 @@ use Rattle.power_policy_interface.specs.declared.capability.ConsumerPowerCapabi
 use Rattle.power_policy_interface.specs.declared.capability.OptionConsumerPowerCapability.{OptionConsumerPowerCapability}
 use Rattle.power_policy_interface.specs.declared.capability.Ordering.{Ordering}
 use Rattle.power_policy_interface.specs.declared.psu.State.{State}
-use Rattle.display.specs.declared.OptionAvailableConsumer.{OptionAvailableConsumer}
+use Rattle.interface_display.specs.declared.OptionAvailableConsumer.{OptionAvailableConsumer}
 use Rattle.power_policy_service.specs.Rows.{psuAt}
 use Rattle.power_policy_service.specs.declared.config.OptionMilliwatts.{OptionMilliwatts}
 

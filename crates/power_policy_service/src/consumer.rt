@@ -1,7 +1,7 @@
 // The choice of the consumer (consumer.rs).
 use crate::config::OptionMilliwatts;
-use display::AvailableConsumer;
-use display::OptionAvailableConsumer;
+use interface_display::AvailableConsumer;
+use interface_display::OptionAvailableConsumer;
 use power_policy_interface::capability::ConsumerPowerCapability;
 use power_policy_interface::capability::OptionConsumerPowerCapability;
 use power_policy_interface::capability::Ordering;

@@ -1,6 +1,6 @@
 -- The whole claim, put together.
 use mathlib.Core.Path.{refl}
-use Rattle.display.proofs.Set.{set-laws}
+use Rattle.interface_display.proofs.Set.{set-laws}
 use Rattle.power_policy_service.proofs.PairOrder.{pair-order}
 use Rattle.power_policy_service.proofs.TypeC.{rust-type-c, default-type-c}
 use Rattle.abstract_policy.proofs.First.{rank-size, base-lowest}

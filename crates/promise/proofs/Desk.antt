@@ -1,5 +1,5 @@
 -- The desk's calls on an image that a follower start left, whatever bytes are taken: the image is read as the code's follower after them, which says what
--- document 01's does (link proofs/Alike.antt).
+-- document 01's does (promise_link proofs/Alike.antt).
 use mathlib.Core.Path.{_≡_, refl, sym, ap, _∙_, subst}
 use mathlib.Core.Bool.{Bool, true, false, cond}
 use mathlib.Core.List.{List, [], _∷_}
@@ -9,23 +9,23 @@ use lib.Dec.{eqb, lit<}
 use lib.ListN.{length}
 use borrow.Author.Tests.{eqb-true, eqb-false}
 use Rattle.power_policy_interface.specs.Limits.{followerLength}
-use Rattle.records.specs.Row.{AllBytes}
-use Rattle.display.specs.Providers.{none}
-use Rattle.display.specs.declared.OptionAvailableConsumer.{OptionAvailableConsumer}
-use Rattle.display.specs.declared.State.{State}
+use Rattle.interface_records.specs.Row.{AllBytes}
+use Rattle.interface_display.specs.Providers.{none}
+use Rattle.interface_display.specs.declared.OptionAvailableConsumer.{OptionAvailableConsumer}
+use Rattle.interface_display.specs.declared.State.{State}
 use Rattle.abstract_policy.specs.Refusals.{firstRefused}
 use Rattle.abstract_policy.proofs.First.{first}
 use Rattle.wire.specs.Read.{readPacket}
 use Rattle.wire.specs.declared.packet.ReadPacket.{ReadPacket}
 use Rattle.abstract_desk.specs.Follower as paper
 use Rattle.abstract_desk.specs.Takes.{paperAfter, EachBytes}
-use Rattle.follower.specs.Follower.{fresh, stateOf, consumerOf}
-use Rattle.follower.specs.declared.Follower.{Follower}
-use Rattle.follower.specs.declared.Shown.{Shown}
-use Rattle.follower.specs.declared.held.Held.{Held}
-use Rattle.link.specs.Alike.{seenAt, seen}
-use Rattle.link.specs.Link.{followerAfter}
-use Rattle.link.proofs.Alike.{alike}
+use Rattle.desk_follower.specs.Follower.{fresh, stateOf, consumerOf}
+use Rattle.desk_follower.specs.declared.Follower.{Follower}
+use Rattle.desk_follower.specs.declared.Shown.{Shown}
+use Rattle.desk_follower.specs.declared.held.Held.{Held}
+use Rattle.promise_link.specs.Alike.{seenAt, seen}
+use Rattle.promise_link.specs.Link.{followerAfter}
+use Rattle.promise_link.proofs.Alike.{alike}
 use Rattle.abstract_calls.specs.Called.{Called, called, refusedCall}
 use Rattle.abstract_calls.specs.Lent.{takeTo}
 use Rattle.abstract_calls.specs.Numbers.{doneNumber, refusedNumber, shownNumber, consumerNumber}
@@ -35,12 +35,12 @@ use Rattle.abstract_calls.specs.DeskCall.{DeskCall, takePacket, readShown, read
 use Rattle.abstract_calls.proofs.OneToOne.{one-to-one}
 use Rattle.abstract_calls.proofs.Packets.{read-refuses}
 use Rattle.abstract_calls.proofs.Results.{packed-low, done-low}
-use Rattle.follower_image.specs.Image.{followerBytes, followerFrom}
-use Rattle.follower_image.specs.declared.ReadFollower.{ReadFollower}
-use Rattle.follower_image.proofs.OneImage.{follower-length, follower-bytes}
-use Rattle.calls.specs.Calls.{takenCall, takeCall, readerCall, shownAs, trackedIn}
-use Rattle.exported.specs.Ours.{functions}
-use Rattle.run_image.proofs.Takes.{each-keeps, desk-is, desk-fits, desk-read}
+use Rattle.bytes_follower_image.specs.Image.{followerBytes, followerFrom}
+use Rattle.bytes_follower_image.specs.declared.ReadFollower.{ReadFollower}
+use Rattle.bytes_follower_image.proofs.OneImage.{follower-length, follower-bytes}
+use Rattle.bytes_calls.specs.Calls.{takenCall, takeCall, readerCall, shownAs, trackedIn}
+use Rattle.abi_functions.specs.Ours.{functions}
+use Rattle.promise_calls.proofs.Takes.{each-keeps, desk-is, desk-fits, desk-read}
 use Rattle.promise.specs.Promise.{Follows, FollowerStarts}
 
 taken-number : (b : List ℕ) (f : Follower) (y : ReadPacket) → takenCall b f y .number ≡ takeTo y

@@ -3,23 +3,23 @@ use mathlib.Core.Path.{_≡_, refl, sym, ap, _∙_, subst}
 use mathlib.Core.Bool.{Bool, true, false, cond}
 use mathlib.Core.List.{List}
 use Prim.Native.Nat.{ℕ}
-use Rattle.records.specs.Row.{AllBytes}
-use Rattle.records.specs.Charger.{chargerFrom}
-use Rattle.records.specs.Psu.{psuFrom}
-use Rattle.records.proofs.OneRecord.{psu-read-write, psu-write-read, charger-read-write, charger-write-read}
+use Rattle.interface_records.specs.Row.{AllBytes}
+use Rattle.interface_records.specs.Charger.{chargerFrom}
+use Rattle.interface_records.specs.Psu.{psuFrom}
+use Rattle.interface_records.proofs.OneRecord.{psu-read-write, psu-write-read, charger-read-write, charger-write-read}
 use Rattle.power_policy_service.specs.declared.config.Config.{Config}
 use Rattle.power_policy_service.specs.declared.config.OptionConfig.{OptionConfig}
-use Rattle.service.specs.Service.{freshService}
-use Rattle.service.specs.declared.Service.{Service}
+use Rattle.machine_service.specs.Service.{freshService}
+use Rattle.machine_service.specs.declared.Service.{Service}
 use Rattle.wire.specs.Read.{readPacket}
 use Rattle.wire.proofs.Lengths.{packet-length}
 use Rattle.wire.proofs.OneNumber as number
 use Rattle.wire.proofs.OnePacket.{read-write, write-read}
-use Rattle.follower.specs.Follower.{stateOf, consumerOf}
-use Rattle.follower.specs.declared.Follower.{Follower}
-use Rattle.report.proofs.Whole.{run-is-follow}
-use Rattle.edges.specs.Edges.{edges}
-use Rattle.run.specs.Demands.{Equal}
+use Rattle.desk_follower.specs.Follower.{stateOf, consumerOf}
+use Rattle.desk_follower.specs.declared.Follower.{Follower}
+use Rattle.desk_report.proofs.Whole.{run-is-follow}
+use Rattle.promise_edges.specs.Edges.{edges}
+use Rattle.promise_run.specs.Demands.{Equal}
 use Rattle.abstract_calls.specs.Called.{Called, refusedCall}
 use Rattle.abstract_calls.specs.Numbers.{refusedNumber, consumerNumber}
 use Rattle.abstract_calls.specs.ServiceCall.{ByteCall}
@@ -27,21 +27,21 @@ use Rattle.abstract_calls.specs.Calls.{CallsBytes, images, packetsOf}
 use Rattle.abstract_calls.specs.Functions.{Arguments, configOf}
 use Rattle.abstract_calls.specs.Definition.{defined}
 use Rattle.abstract_calls.proofs.OneToOne.{one-to-one}
-use Rattle.service_image.specs.Image.{serviceFrom}
-use Rattle.service_image.specs.declared.ReadService.{ReadService}
-use Rattle.service_image.proofs.Service.{service-read-write, service-write-read, service-read-typed}
-use Rattle.follower_image.specs.Image.{followerFrom}
-use Rattle.follower_image.specs.declared.ReadFollower.{ReadFollower}
-use Rattle.follower_image.proofs.OneImage.{follower-read-write, follower-write-read, follower-read-fits}
-use Rattle.invariant.proofs.Good.{Good}
-use Rattle.invariant.proofs.Bound.{good-orders, good-rest}
-use Rattle.calls.specs.Calls.{takenCall, shownAs, trackedIn}
-use Rattle.exported.specs.Ours.{functions}
-use Rattle.run_image.proofs.Takes.{each-keeps, desk-read}
-use Rattle.run_image.proofs.Images.{image-read}
-use Rattle.run_image.proofs.First.{call-refuses}
-use Rattle.run_image.proofs.Turned.{call-back}
-use Rattle.run_image.proofs.Reached.{reached, reached-good, reached-equal, reached-image}
+use Rattle.bytes_service_image.specs.Image.{serviceFrom}
+use Rattle.bytes_service_image.specs.declared.ReadService.{ReadService}
+use Rattle.bytes_service_image.proofs.Service.{service-read-write, service-write-read, service-read-typed}
+use Rattle.bytes_follower_image.specs.Image.{followerFrom}
+use Rattle.bytes_follower_image.specs.declared.ReadFollower.{ReadFollower}
+use Rattle.bytes_follower_image.proofs.OneImage.{follower-read-write, follower-write-read, follower-read-fits}
+use Rattle.promise_invariant.proofs.Good.{Good}
+use Rattle.promise_invariant.proofs.Bound.{good-orders, good-rest}
+use Rattle.bytes_calls.specs.Calls.{takenCall, shownAs, trackedIn}
+use Rattle.abi_functions.specs.Ours.{functions}
+use Rattle.promise_calls.proofs.Takes.{each-keeps, desk-read}
+use Rattle.promise_calls.proofs.Images.{image-read}
+use Rattle.promise_calls.proofs.First.{call-refuses}
+use Rattle.promise_calls.proofs.Turned.{call-back}
+use Rattle.promise_calls.proofs.Reached.{reached, reached-good, reached-equal, reached-image}
 use Rattle.promise.specs.Layout.{Layout}
 use Rattle.promise.specs.Promise.{startRefused, registers}
 use Rattle.promise.proofs.Promised.{started-good, started-demands}

@@ -8,44 +8,44 @@ use Prim.Native.Nat.{ℕ, _+_, _/_, _≤_}
 use lib.ListN.{length}
 use Rattle.power_policy_interface.specs.Limits.{followerLength}
 use Rattle.power_policy_interface.specs.Psu.{answerByte}
-use Rattle.display.specs.declared.Display.{Display}
-use Rattle.display.specs.declared.packet.EventPacket.{EventPacket}
-use Rattle.display.specs.declared.packet.Packet.{Packet}
-use Rattle.display.specs.declared.packet.Picture.{Picture}
+use Rattle.interface_display.specs.declared.Display.{Display}
+use Rattle.interface_display.specs.declared.packet.EventPacket.{EventPacket}
+use Rattle.interface_display.specs.declared.packet.Packet.{Packet}
+use Rattle.interface_display.specs.declared.packet.Picture.{Picture}
 use Rattle.abstract_policy.specs.Policy.{started}
 use Rattle.abstract_policy.specs.declared.state.Registration.{Registration}
-use Rattle.service.specs.declared.Service.{Service}
+use Rattle.machine_service.specs.declared.Service.{Service}
 use Rattle.wire.specs.Bytes.{packetBytes}
 use Rattle.wire.specs.Read.{readPacket}
 use Rattle.wire.specs.WellFormed.{pictureFits}
 use Rattle.wire.specs.declared.packet.ReadPacket.{ReadPacket}
-use Rattle.follower.specs.Follower.{stateOf, consumerOf}
-use Rattle.follower.specs.declared.Follower.{Follower}
-use Rattle.follower.specs.declared.Shown.{Shown}
-use Rattle.link.specs.Link as link
-use Rattle.link.specs.Link.{followerAfter}
-use Rattle.link.specs.Source.{Source, numberIn}
-use Rattle.link.specs.Takes as taken
-use Rattle.link.specs.Takes.{Met}
-use Rattle.link.proofs.Lists.{one-packet}
-use Rattle.run.specs.Demands as run
-use Rattle.run.specs.Demands.{OnLink}
+use Rattle.desk_follower.specs.Follower.{stateOf, consumerOf}
+use Rattle.desk_follower.specs.declared.Follower.{Follower}
+use Rattle.desk_follower.specs.declared.Shown.{Shown}
+use Rattle.promise_link.specs.Link as link
+use Rattle.promise_link.specs.Link.{followerAfter}
+use Rattle.promise_link.specs.Source.{Source, numberIn}
+use Rattle.promise_link.specs.Takes as taken
+use Rattle.promise_link.specs.Takes.{Met}
+use Rattle.promise_link.proofs.Lists.{one-packet}
+use Rattle.promise_run.specs.Demands as run
+use Rattle.promise_run.specs.Demands.{OnLink}
 use Rattle.abstract_calls.specs.Numbers.{consumerNumber, shownNumber}
 use Rattle.abstract_calls.specs.ServiceCall.{ByteCall, writePacket, writePicture}
 use Rattle.abstract_calls.specs.Calls.{CallsBytes, desk, packetsOf}
 use Rattle.abstract_calls.specs.DeskCall.{DeskCall, takePacket}
 use Rattle.abstract_calls.specs.Definition.{callsOf, defined, held}
-use Rattle.service_image.specs.Image.{serviceBytes}
-use Rattle.follower_image.specs.Fits.{shownFits}
-use Rattle.follower_image.specs.Image.{followerFrom}
-use Rattle.follower_image.specs.declared.ReadFollower.{ReadFollower}
-use Rattle.follower_image.proofs.OneImage.{fits, picture-parts}
-use Rattle.invariant.proofs.Good.{Good}
-use Rattle.calls.specs.Calls.{readerCall, shownAs, trackedIn}
-use Rattle.exported.specs.Ours.{functions}
+use Rattle.bytes_service_image.specs.Image.{serviceBytes}
+use Rattle.bytes_follower_image.specs.Fits.{shownFits}
+use Rattle.bytes_follower_image.specs.Image.{followerFrom}
+use Rattle.bytes_follower_image.specs.declared.ReadFollower.{ReadFollower}
+use Rattle.bytes_follower_image.proofs.OneImage.{fits, picture-parts}
+use Rattle.promise_invariant.proofs.Good.{Good}
+use Rattle.bytes_calls.specs.Calls.{readerCall, shownAs, trackedIn}
+use Rattle.abi_functions.specs.Ours.{functions}
 use Rattle.abstract_calls.proofs.Lists.{packets-on}
-use Rattle.run_image.proofs.Takes.{AllKeep, all-keep, desk-fits, desk-read}
-use Rattle.run_image.proofs.Written.{Sent, bytes-left, packet-sent, picture-sent}
+use Rattle.promise_calls.proofs.Takes.{AllKeep, all-keep, desk-fits, desk-read}
+use Rattle.promise_calls.proofs.Written.{Sent, bytes-left, packet-sent, picture-sent}
 use Rattle.promise.specs.Runs.{PacketOf, PictureOf, Handed, packet, picture, turned-back, AllHanded, In, Comes, NothingAbove, NoEventAbove, Lost, Shows}
 use Rattle.promise.specs.Promise.{Link}
 use Rattle.promise.proofs.Sent.{packetOf, packet-is, picture-is}

@@ -5,8 +5,8 @@ use Prim.Native.Nat.{ℕ, _+_, _*_, _≤_}
 use native.Mathlib.Omega.{arith}
 use lib.ListN.{length}
 use Rattle.power_policy_interface.specs.declared.service.event.Event.{Event}
-use Rattle.display.specs.Notices.{empty, listed}
-use Rattle.display.specs.declared.packet.EventPacket.{EventPacket}
+use Rattle.interface_display.specs.Notices.{empty, listed}
+use Rattle.interface_display.specs.declared.packet.EventPacket.{EventPacket}
 use Rattle.power_policy_service.specs.declared.config.Config.{Config}
 use Rattle.power_policy_service.specs.declared.config.OptionConfig.{OptionConfig}
 use Rattle.abstract_policy.specs.Orders.{ordersOf}
@@ -16,19 +16,19 @@ use Rattle.abstract_policy.specs.declared.state.Registration.{Registration}
 use Rattle.abstract_policy.specs.declared.outcome.SentPacket.{SentPacket}
 use Rattle.abstract_policy.proofs.Orders.{run-counts}
 use Rattle.abstract_policy.proofs.Chosen.{run-chooses}
-use Rattle.service.specs.Service.{freshService}
-use Rattle.service.specs.declared.Service.{Service}
-use Rattle.interaction.proofs.Told.{at-most-four}
-use Rattle.run.specs.Demands as run
+use Rattle.machine_service.specs.Service.{freshService}
+use Rattle.machine_service.specs.declared.Service.{Service}
+use Rattle.machine_follows.proofs.Told.{at-most-four}
+use Rattle.promise_run.specs.Demands as run
 use Rattle.abstract_calls.specs.ServiceCall.{ByteCall}
 use Rattle.abstract_calls.specs.Calls.{CallsBytes}
 use Rattle.abstract_calls.specs.Functions.{Arguments, configOf}
 use Rattle.abstract_calls.specs.Definition.{callsOf, defined, Closes}
-use Rattle.invariant.proofs.Good.{Good, parts}
-use Rattle.run_image.proofs.Bounds.{orders-bound, stand-closes}
-use Rattle.run_image.proofs.Images.{calls-fit}
-use Rattle.run_image.proofs.Ranges.{order-in-range, answer-in-range, held-in-range}
-use Rattle.run_image.proofs.Reached.{reached, reached-good, reached-equal, reached-registration}
+use Rattle.promise_invariant.proofs.Good.{Good, parts}
+use Rattle.promise_calls.proofs.Bounds.{orders-bound, stand-closes}
+use Rattle.promise_calls.proofs.Images.{calls-fit}
+use Rattle.promise_calls.proofs.Ranges.{order-in-range, answer-in-range, held-in-range}
+use Rattle.promise_calls.proofs.Reached.{reached, reached-good, reached-equal, reached-registration}
 use Rattle.promise.specs.Promise.{startRefused, registers, Meaning}
 use Rattle.promise.proofs.Promised.{started-good, started-demands}
 use Rattle.promise.proofs.Sent.{packet-is, packet-closed}

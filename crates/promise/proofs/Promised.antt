@@ -7,10 +7,10 @@ use Prim.Native.Nat.{ℕ}
 use lib.Dec.{eqb}
 use lib.ListN.{length}
 use Rattle.power_policy_interface.specs.Limits.{serviceLength, followerLength}
-use Rattle.records.specs.Row.{AllBytes}
-use Rattle.display.specs.declared.packet.EventPacket.{EventPacket}
-use Rattle.display.specs.declared.packet.Packet.{Packet}
-use Rattle.display.specs.declared.packet.Picture.{Picture}
+use Rattle.interface_records.specs.Row.{AllBytes}
+use Rattle.interface_display.specs.declared.packet.EventPacket.{EventPacket}
+use Rattle.interface_display.specs.declared.packet.Packet.{Packet}
+use Rattle.interface_display.specs.declared.packet.Picture.{Picture}
 use Rattle.power_policy_service.specs.declared.config.Config.{Config}
 use Rattle.power_policy_service.specs.declared.config.OptionConfig.{OptionConfig}
 use Rattle.abstract_policy.specs.Refusals.{firstRefused, Applies, waiting}
@@ -19,18 +19,18 @@ use Rattle.abstract_policy.specs.Returns.{packetTo, pictureTo}
 use Rattle.abstract_policy.specs.declared.state.Registration.{Registration}
 use Rattle.abstract_policy.specs.declared.outcome.SentPacket.{SentPacket}
 use Rattle.abstract_policy.specs.declared.outcome.SentPicture.{SentPicture}
-use Rattle.event.specs.Phase.{orderOf}
-use Rattle.service.specs.Service.{startOf, freshService, openOf, answerOf}
-use Rattle.service.specs.declared.Service.{Service}
-use Rattle.service.specs.declared.Started.{Started}
+use Rattle.machine_state.specs.Phase.{orderOf}
+use Rattle.machine_service.specs.Service.{startOf, freshService, openOf, answerOf}
+use Rattle.machine_service.specs.declared.Service.{Service}
+use Rattle.machine_service.specs.declared.Started.{Started}
 use Rattle.wire.specs.Read.{readPacket}
 use Rattle.wire.specs.declared.packet.ReadPacket.{ReadPacket}
-use Rattle.follower.specs.Follower.{stateOf, consumerOf}
-use Rattle.follower.specs.declared.Follower.{Follower}
-use Rattle.run.specs.Demands as run
-use Rattle.run.specs.Demands.{Equal}
-use Rattle.run.proofs.Linked.{after-start}
-use Rattle.run.proofs.Starts.{start-fits}
+use Rattle.desk_follower.specs.Follower.{stateOf, consumerOf}
+use Rattle.desk_follower.specs.declared.Follower.{Follower}
+use Rattle.promise_run.specs.Demands as run
+use Rattle.promise_run.specs.Demands.{Equal}
+use Rattle.promise_run.proofs.Linked.{after-start}
+use Rattle.promise_run.proofs.Starts.{start-fits}
 use Rattle.abstract_calls.specs.Called.{Called, refusedCall}
 use Rattle.abstract_calls.specs.Numbers.{refusedNumber, consumerNumber}
 use Rattle.abstract_calls.specs.ServiceCall.{ByteCall, openEvent, giveAnswer, readOrder, writePacket, writePicture}
@@ -38,21 +38,21 @@ use Rattle.abstract_calls.specs.Calls.{bufferIn, CallsBytes, imageAfter, return
 use Rattle.abstract_calls.specs.DeskCall.{DeskCall, takePacket, readShown, readConsumer, readTracked}
 use Rattle.abstract_calls.specs.Functions.{Arguments, configOf}
 use Rattle.abstract_calls.specs.Definition.{callsOf, defined, conditionsTo, Refuses}
-use Rattle.service_image.specs.Image.{serviceBytes, serviceFrom}
-use Rattle.service_image.specs.declared.ReadService.{ReadService}
-use Rattle.service_image.proofs.Service.{service-bytes}
-use Rattle.service_image.proofs.Stored.{service-length}
-use Rattle.follower_image.specs.Image.{followerFrom}
-use Rattle.invariant.proofs.Good.{Good}
-use Rattle.calls.specs.Calls.{startCall, onService, orderCall, writePacketCall, writePictureCall, takenCall, readerCall, shownAs, trackedIn}
-use Rattle.exported.specs.Ours.{functions}
+use Rattle.bytes_service_image.specs.Image.{serviceBytes, serviceFrom}
+use Rattle.bytes_service_image.specs.declared.ReadService.{ReadService}
+use Rattle.bytes_service_image.proofs.Service.{service-bytes}
+use Rattle.bytes_service_image.proofs.Stored.{service-length}
+use Rattle.bytes_follower_image.specs.Image.{followerFrom}
+use Rattle.promise_invariant.proofs.Good.{Good}
+use Rattle.bytes_calls.specs.Calls.{startCall, onService, orderCall, writePacketCall, writePictureCall, takenCall, readerCall, shownAs, trackedIn}
+use Rattle.abi_functions.specs.Ours.{functions}
 use Rattle.abstract_calls.proofs.Lists.{no-bytes}
-use Rattle.run_image.specs.Refused.{ofImage, refusalsOf}
-use Rattle.run_image.proofs.Images.{calls-fit, image-read}
-use Rattle.run_image.proofs.First.{call-refuses, start-refuses}
-use Rattle.run_image.proofs.Reached.{reached, reached-good, reached-equal, reached-image, reached-returns, reached-buffers, fits-good}
-use Rattle.run_image.proofs.Turned.{call-back}
-use Rattle.run_image.proofs.Written.{packet-sent, picture-sent}
+use Rattle.promise_calls.specs.Refused.{ofImage, refusalsOf}
+use Rattle.promise_calls.proofs.Images.{calls-fit, image-read}
+use Rattle.promise_calls.proofs.First.{call-refuses, start-refuses}
+use Rattle.promise_calls.proofs.Reached.{reached, reached-good, reached-equal, reached-image, reached-returns, reached-buffers, fits-good}
+use Rattle.promise_calls.proofs.Turned.{call-back}
+use Rattle.promise_calls.proofs.Written.{packet-sent, picture-sent}
 use Rattle.promise.specs.Promise.{startRefused, registers, Serves, Promise}
 use Rattle.promise.proofs.Desk.{ours-follower-starts}
 use Rattle.promise.proofs.Linked.{ours-link}

@@ -10,10 +10,10 @@ use borrow.Author.Tests.{ltb-true}
 use lib.ListN.{length, replicate, take, getD, set}
 use Rattle.power_policy_interface.specs.Limits.{serviceLength, followerLength}
 use Rattle.power_policy_interface.specs.declared.psu.Result.{Result}
-use Rattle.records.specs.Row.{AllBytes}
-use Rattle.display.specs.declared.packet.EventPacket.{EventPacket}
-use Rattle.display.specs.declared.packet.Packet.{Packet}
-use Rattle.display.specs.declared.packet.Picture.{Picture}
+use Rattle.interface_records.specs.Row.{AllBytes}
+use Rattle.interface_display.specs.declared.packet.EventPacket.{EventPacket}
+use Rattle.interface_display.specs.declared.packet.Packet.{Packet}
+use Rattle.interface_display.specs.declared.packet.Picture.{Picture}
 use Rattle.power_policy_service.specs.Config.{rustDefault}
 use Rattle.abstract_policy.specs.Interaction.{updateUnconstrainedState, connectNewConsumer, disconnectCurrent, disconnectChargers, connectConsumer, postConsumerConnected, connectBest, updateCurrentConsumer, postProviderConnected, provide, connectProvider, removeProvider, postProviderRemoved, processPsuEvent}
 use Rattle.abstract_policy.specs.declared.state.Registration.{Registration}
@@ -24,8 +24,8 @@ use Rattle.wire.specs.Packet.{packetOf, pictureAfter, unconstrained, capability
 use Rattle.wire.specs.Parser.{field, number as readField}
 use Rattle.wire.specs.Read.{readPacket}
 use Rattle.wire.specs.declared.packet.ReadPacket.{ReadPacket}
-use Rattle.link.specs.Source.{numberIn}
-use Rattle.link.proofs.Lists.{one-packet}
+use Rattle.promise_link.specs.Source.{numberIn}
+use Rattle.promise_link.proofs.Lists.{one-packet}
 use Rattle.abstract_calls.specs.Numbers.{lostNumber, closedNumber}
 use Rattle.abstract_calls.specs.ServiceCall.{ByteCall, openEvent, giveAnswer, writePacket, writePicture}
 use Rattle.abstract_calls.specs.Calls.{CallsBytes, imageAfter, returned, bufferAfter, images, desk}
@@ -34,9 +34,9 @@ use Rattle.abstract_calls.specs.Functions.{Functions, Arguments, arguments, con
 use Rattle.abstract_calls.specs.Definition.{defined, held, returnTo, bufferTo}
 use Rattle.abstract_calls.proofs.Lists.{no-bytes}
 use Rattle.abstract_calls.proofs.Results.{refused-low}
-use Rattle.follower_image.proofs.Notices.{and-left, and-right}
-use Rattle.exported.specs.Ours.{functions}
-use Rattle.run_image.proofs.Written.{bytes-left}
+use Rattle.bytes_follower_image.proofs.Notices.{and-left, and-right}
+use Rattle.abi_functions.specs.Ours.{functions}
+use Rattle.promise_calls.proofs.Written.{bytes-left}
 use Rattle.promise.specs.Runs.{PacketOf, PictureOf, packet, picture, AllHanded, Comes, NothingAbove, Lost, Shows}
 use Rattle.promise.specs.Promise.{startRefused, registers, Link, Serves, Promise}
 use Rattle.promise.specs.Testers.{alwaysLost, deaf, ignoresAnswers, inventsCount, alwaysPort0, ordersNothing, turnsBack, staysFull, Testers}

@@ -4,9 +4,9 @@ use mathlib.Core.Bool.{Bool, true, false, cond}
 use Prim.Native.Nat.{ℕ}
 use lib.Dec.{eqb}
 use Rattle.power_policy_interface.specs.Psu.{answerByte}
-use Rattle.display.specs.Notices.{empty}
-use Rattle.display.specs.declared.packet.EventPacket.{EventPacket}
-use Rattle.display.specs.declared.packet.Picture.{Picture}
+use Rattle.interface_display.specs.Notices.{empty}
+use Rattle.interface_display.specs.declared.packet.EventPacket.{EventPacket}
+use Rattle.interface_display.specs.declared.packet.Picture.{Picture}
 use Rattle.abstract_policy.specs.Refusals.{firstRefused, packetConditions, pictureConditions}
 use Rattle.abstract_policy.specs.State.{displayOf}
 use Rattle.abstract_policy.specs.Policy.{Policy, Stand, between, at, isAt}

@@ -4,12 +4,12 @@ use mathlib.Core.Bool.{Bool, true, false, cond}
 use mathlib.Core.Logic.{_⊎_, inl, inr}
 use Prim.Native.Nat.{ℕ, _/_, _≤_}
 use native.Mathlib.Omega.{arith}
-use Rattle.display.specs.declared.Display.{Display}
-use Rattle.display.specs.declared.State.{State}
-use Rattle.follower.specs.Follower.{stateAt, stateOf}
-use Rattle.follower.specs.Held.{noneHeld}
-use Rattle.follower.specs.declared.Follower.{Follower}
-use Rattle.follower.specs.declared.Shown.{Shown}
+use Rattle.interface_display.specs.declared.Display.{Display}
+use Rattle.interface_display.specs.declared.State.{State}
+use Rattle.desk_follower.specs.Follower.{stateAt, stateOf}
+use Rattle.desk_follower.specs.Held.{noneHeld}
+use Rattle.desk_follower.specs.declared.Follower.{Follower}
+use Rattle.desk_follower.specs.declared.Shown.{Shown}
 use Rattle.abstract_calls.specs.Numbers.{lostNumber, shownNumber}
 use Rattle.abstract_calls.proofs.OneToOne.{one-to-one}
 

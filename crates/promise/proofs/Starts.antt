@@ -11,15 +11,15 @@ use Rattle.power_policy_interface.specs.Limits.{serviceLength}
 use Rattle.power_policy_service.specs.declared.config.Config.{Config}
 use Rattle.power_policy_service.specs.declared.config.OptionConfig.{OptionConfig}
 use Rattle.abstract_policy.specs.Refusals.{firstRefused}
-use Rattle.service.specs.Service.{startOf, startWith, freshService}
-use Rattle.service.specs.declared.Service.{Service}
-use Rattle.service.specs.declared.Started.{Started}
+use Rattle.machine_service.specs.Service.{startOf, startWith, freshService}
+use Rattle.machine_service.specs.declared.Service.{Service}
+use Rattle.machine_service.specs.declared.Started.{Started}
 use Rattle.abstract_calls.specs.Called.{Called, called, refusedCall}
 use Rattle.abstract_calls.specs.Numbers.{doneNumber, refusedNumber}
 use Rattle.abstract_calls.specs.Definition.{startConditions}
-use Rattle.service_image.specs.Image.{serviceBytes}
-use Rattle.calls.specs.Calls.{startedCall, startCall}
-use Rattle.run_image.proofs.First.{start-refuses}
+use Rattle.bytes_service_image.specs.Image.{serviceBytes}
+use Rattle.bytes_calls.specs.Calls.{startedCall, startCall}
+use Rattle.promise_calls.proofs.First.{start-refuses}
 use Rattle.promise.specs.Promise.{doneOr}
 
 module _ (image : List ℕ) (ports chargers : ℕ) where

@@ -6,7 +6,7 @@ use mathlib.Core.Path.{_≡_}
 use Prim.Native.Nat.{ℕ, _≤_}
 use lib.ListN.{replicate}
 use Rattle.power_policy_interface.specs.Limits.{serviceLength}
-use Rattle.display.specs.Set.{SetLaws}
+use Rattle.interface_display.specs.Set.{SetLaws}
 use Rattle.power_policy_service.specs.Config.{rustDefault, defaultConfig}
 use Rattle.power_policy_service.specs.PairOrder.{PairOrder}
 use Rattle.power_policy_service.specs.TypeC.{TypeC}
@@ -14,7 +14,7 @@ use Rattle.power_policy_service.specs.declared.config.Config.{Config}
 use Rattle.power_policy_service.specs.declared.config.OptionConfig.{OptionConfig}
 use Rattle.abstract_policy.specs.Refusals.{rank, Applies, First, Base, Lowest}
 use Rattle.abstract_calls.specs.Functions.{Functions, Arguments, arguments, configOf}
-use Rattle.exported.specs.Ours.{functions}
+use Rattle.abi_functions.specs.Ours.{functions}
 use Rattle.promise.specs.Layout.{Layout}
 use Rattle.promise.specs.Promise.{startRefused, registers, Promise, Meaning}
 use Rattle.promise.specs.Same.{Same}

@@ -9,29 +9,29 @@ use lib.ListN.{length, drop}
 use Rattle.power_policy_interface.specs.Limits.{followerLength, bufferLength}
 use Rattle.power_policy_interface.specs.declared.charger.State as charger
 use Rattle.power_policy_interface.specs.declared.psu.State as psu
-use Rattle.records.specs.Row.{AllBytes}
-use Rattle.records.specs.Charger.{chargerFrom, chargerBytes}
-use Rattle.records.specs.Psu.{psuFrom, psuBytes}
-use Rattle.records.specs.declared.charger.ReadCharger.{ReadCharger}
-use Rattle.records.specs.declared.psu.ReadPsu.{ReadPsu}
-use Rattle.display.specs.declared.packet.Packet.{Packet}
+use Rattle.interface_records.specs.Row.{AllBytes}
+use Rattle.interface_records.specs.Charger.{chargerFrom, chargerBytes}
+use Rattle.interface_records.specs.Psu.{psuFrom, psuBytes}
+use Rattle.interface_records.specs.declared.charger.ReadCharger.{ReadCharger}
+use Rattle.interface_records.specs.declared.psu.ReadPsu.{ReadPsu}
+use Rattle.interface_display.specs.declared.packet.Packet.{Packet}
 use Rattle.power_policy_service.specs.declared.config.Config.{Config}
 use Rattle.power_policy_service.specs.declared.config.OptionConfig.{OptionConfig}
 use Rattle.abstract_policy.specs.Ends.{AtMost}
-use Rattle.service.specs.declared.Service.{Service}
-use Rattle.interaction.specs.Machine.{standsAt}
+use Rattle.machine_service.specs.declared.Service.{Service}
+use Rattle.machine_follows.specs.Machine.{standsAt}
 use Rattle.wire.specs.Bytes.{packetBytes}
 use Rattle.wire.specs.Number.{leb128, readNumber}
 use Rattle.wire.specs.Read.{readPacket}
 use Rattle.wire.specs.WellFormed as wire
 use Rattle.wire.specs.declared.number.ReadNumber.{ReadNumber}
 use Rattle.wire.specs.declared.packet.ReadPacket.{ReadPacket}
-use Rattle.follower.specs.declared.Follower.{Follower}
-use Rattle.report.specs.Desk.{follow}
-use Rattle.report.specs.Reads.{run}
-use Rattle.link.specs.Link.{followerAfter}
-use Rattle.edges.specs.Edges.{Edges}
-use Rattle.run.specs.Demands.{Equal}
+use Rattle.desk_follower.specs.declared.Follower.{Follower}
+use Rattle.desk_report.specs.Desk.{follow}
+use Rattle.desk_report.specs.Reads.{run}
+use Rattle.promise_link.specs.Link.{followerAfter}
+use Rattle.promise_edges.specs.Edges.{Edges}
+use Rattle.promise_run.specs.Demands.{Equal}
 use Rattle.abstract_calls.specs.Called.{refusedCall}
 use Rattle.abstract_calls.specs.Numbers.{refusedNumber}
 use Rattle.abstract_calls.specs.OneToOne.{OneToOne}
@@ -40,15 +40,15 @@ use Rattle.abstract_calls.specs.Calls.{bufferIn, CallsBytes, imageAfter, return
 use Rattle.abstract_calls.specs.DeskCall.{DeskCall}
 use Rattle.abstract_calls.specs.Functions.{Arguments, configOf}
 use Rattle.abstract_calls.specs.Definition.{defined, Refuses}
-use Rattle.service_image.specs.Image.{serviceBytes, serviceFrom}
-use Rattle.service_image.specs.Typed.{Typed}
-use Rattle.service_image.specs.WellFormed.{wellFormed}
-use Rattle.service_image.specs.declared.ReadService.{ReadService}
-use Rattle.follower_image.specs.Fits.{imageFits}
-use Rattle.follower_image.specs.Image.{followerBytes, followerFrom}
-use Rattle.calls.specs.Calls.{takenCall}
-use Rattle.exported.specs.Ours.{functions}
-use Rattle.run_image.specs.Refused.{conditions}
+use Rattle.bytes_service_image.specs.Image.{serviceBytes, serviceFrom}
+use Rattle.bytes_service_image.specs.Typed.{Typed}
+use Rattle.bytes_service_image.specs.WellFormed.{wellFormed}
+use Rattle.bytes_service_image.specs.declared.ReadService.{ReadService}
+use Rattle.bytes_follower_image.specs.Fits.{imageFits}
+use Rattle.bytes_follower_image.specs.Image.{followerBytes, followerFrom}
+use Rattle.bytes_calls.specs.Calls.{takenCall}
+use Rattle.abi_functions.specs.Ours.{functions}
+use Rattle.promise_calls.specs.Refused.{conditions}
 use Rattle.promise.specs.Promise.{startRefused, registers}
 
 pub record Layout : Type 0 where

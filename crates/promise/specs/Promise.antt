@@ -13,7 +13,7 @@
 --                power_policy_service specs/Consumer.antt, Choice.antt, Provider.antt, Config.antt, Rows.antt; abstract_policy specs/Chosen.antt, Ends.antt
 --   refusals     abstract_policy specs/Refusals.antt
 --   numbers      abstract_calls specs/Numbers.antt, OneToOne.antt, Called.antt, Lent.antt
---   packets      wire specs/Number.antt, Parser.antt, Packet.antt, Bytes.antt, Read.antt; wire_writer specs/; display specs/; records specs/; power_policy_interface specs/
+--   packets      wire specs/Number.antt, Parser.antt, Packet.antt, Bytes.antt, Read.antt; wire_writer specs/; interface_display specs/; interface_records specs/; power_policy_interface specs/
 --   follower     abstract_desk specs/Follower.antt, Takes.antt
 --   link         `Link`, below
 use Prim.Native.Nat.{ℕ, _+_, _*_, _%_, _≤_}
@@ -24,11 +24,11 @@ use mathlib.Core.Path.{_≡_}
 use lib.Dec.{eqb}
 use lib.ListN.{length}
 use Rattle.power_policy_interface.specs.Limits.{maxNotices, window, serviceLength, followerLength}
-use Rattle.records.specs.Row.{AllBytes}
-use Rattle.display.specs.Notices.{listed}
-use Rattle.display.specs.declared.packet.EventPacket.{EventPacket}
-use Rattle.display.specs.declared.packet.Packet.{Packet}
-use Rattle.display.specs.declared.packet.Picture.{Picture}
+use Rattle.interface_records.specs.Row.{AllBytes}
+use Rattle.interface_display.specs.Notices.{listed}
+use Rattle.interface_display.specs.declared.packet.EventPacket.{EventPacket}
+use Rattle.interface_display.specs.declared.packet.Packet.{Packet}
+use Rattle.interface_display.specs.declared.packet.Picture.{Picture}
 use Rattle.power_policy_service.specs.declared.config.Config.{Config}
 use Rattle.power_policy_service.specs.declared.config.OptionConfig.{OptionConfig}
 use Rattle.abstract_policy.specs.Refusals.{firstRefused, First}

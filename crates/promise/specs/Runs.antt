@@ -5,10 +5,10 @@ use mathlib.Core.List.{List, [], _∷_, _++_}
 use mathlib.Core.Logic.{_⊎_}
 use mathlib.Core.Path.{_≡_}
 use Rattle.power_policy_interface.specs.declared.psu.Result.{Result}
-use Rattle.display.specs.Providers.{none}
-use Rattle.display.specs.declared.Display.{Display}
-use Rattle.display.specs.declared.OptionAvailableConsumer.{OptionAvailableConsumer}
-use Rattle.display.specs.declared.State.{State}
+use Rattle.interface_display.specs.Providers.{none}
+use Rattle.interface_display.specs.declared.Display.{Display}
+use Rattle.interface_display.specs.declared.OptionAvailableConsumer.{OptionAvailableConsumer}
+use Rattle.interface_display.specs.declared.State.{State}
 use Rattle.abstract_policy.specs.declared.state.Registration.{Registration}
 use Rattle.wire.specs.Read.{readPacket}
 use Rattle.wire.specs.declared.packet.ReadPacket.{ReadPacket}

@@ -5,12 +5,12 @@ use mathlib.Core.List.{List, _++_}
 use lib.Dec.{eqb}
 use lib.ListN.{length, drop, getD, set}
 use Rattle.power_policy_interface.specs.declared.psu.Result.{Result}
-use Rattle.display.specs.Providers.{none}
-use Rattle.display.specs.declared.OptionAvailableConsumer.{OptionAvailableConsumer}
+use Rattle.interface_display.specs.Providers.{none}
+use Rattle.interface_display.specs.declared.OptionAvailableConsumer.{OptionAvailableConsumer}
 use Rattle.abstract_calls.specs.Called.{Called, called}
 use Rattle.abstract_calls.specs.Numbers.{refusedNumber, closedNumber, lostNumber, consumerNumber, trackedNumber}
 use Rattle.abstract_calls.specs.Functions.{Functions}
-use Rattle.exported.specs.Ours.{functions}
+use Rattle.abi_functions.specs.Ours.{functions}
 use Rattle.promise.specs.Promise.{Promise}
 
 -- ours, but for these

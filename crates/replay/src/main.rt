@@ -1,6 +1,11 @@
 // Replays answers of the original Rust, and of document 01 for bad input, which stand on standard input as vectors of 49 bytes:
 // an operation, the record before (18), an argument (6), the result (6) and the record after (18). rust/README.md says what
 // each operation is. It writes how many vectors there were and how many differ, and the first that does.
+use interface_records::charger::ReadCharger;
+use interface_records::group::Group;
+use interface_records::group::ReadConsumer;
+use interface_records::group::ReadProvider;
+use interface_records::psu::ReadPsu;
 use libc::STDOUT_FILENO;
 use power_policy_interface::capability::ConsumerFlags;
 use power_policy_interface::capability::ConsumerPowerCapability;
@@ -20,11 +25,6 @@ use power_policy_interface::charger;
 use power_policy_interface::charger::event::OptionPsuState;
 use power_policy_interface::charger::event::PsuState;
 use power_policy_interface::psu;
-use records::charger::ReadCharger;
-use records::group::Group;
-use records::group::ReadConsumer;
-use records::group::ReadProvider;
-use records::psu::ReadPsu;
 ghost use mathlib.Core.Path.{_≡_};
 ghost use Prim.Native.Nat.{_<_};
 ghost use lib.ListN.{length};
@@ -126,13 +126,13 @@ fn unreadable() -> Answer {
 
 fn ask(op: u8, record: &[u8], argument: &[u8]) -> Answer {
     if op <= 10 {
-        return match records::psu::read(record) {
+        return match interface_records::psu::read(record) {
             ReadPsu::Refused => unreadable(),
             ReadPsu::Read(s) => ask_psu(op, s, argument),
         };
     }
     if op <= 18 {
-        return match records::charger::read(front(record)) {
+        return match interface_records::charger::read(front(record)) {
             ReadCharger::Refused => unreadable(),
             ReadCharger::Read(s) => ask_charger(op, s, argument),
         };
@@ -202,7 +202,7 @@ fn provider(argument: &[u8]) -> OptionProviderPowerCapability {
 fn psu_record(s: psu::State) -> Answer {
     Answer {
         result: [0u8; 6],
-        record: records::psu::write(s),
+        record: interface_records::psu::write(s),
     }
 }
 
@@ -214,7 +214,7 @@ fn after_psu(t: psu::Transition) -> Answer {
     let actual = m.actual;
     Answer {
         result: [a, m.expected, actual.number(), 0, 0, 0],
-        record: records::psu::write(state),
+        record: interface_records::psu::write(state),
     }
 }
 
@@ -240,7 +240,7 @@ fn connected_provider(s: psu::State) -> Answer {
     let g = Group::of_option_provider(s.connected_provider_capability());
     Answer {
         result: [g.number, g.v0, g.v1, g.c0, g.c1, g.flags],
-        record: records::psu::write(s),
+        record: interface_records::psu::write(s),
     }
 }
 
@@ -270,7 +270,7 @@ fn ask_charger(op: u8, s: charger::State, argument: &[u8]) -> Answer {
 }
 
 fn charger_bytes(s: charger::State) -> [u8; 18] {
-    let b = records::charger::write(s);
+    let b = interface_records::charger::write(s);
     [
         b[0],
         b[1],
@@ -402,14 +402,14 @@ fn renegotiation(b: u8) -> Answer {
 
 fn ask_bytes(op: u8, record: &[u8]) -> Answer {
     match op {
-        24 => match records::psu::read(record) {
+        24 => match interface_records::psu::read(record) {
             ReadPsu::Refused => nothing(),
             ReadPsu::Read(s) => Answer {
                 result: [1, 0, 0, 0, 0, 0],
-                record: records::psu::write(s),
+                record: interface_records::psu::write(s),
             },
         },
-        25 => match records::charger::read(front(record)) {
+        25 => match interface_records::charger::read(front(record)) {
             ReadCharger::Refused => nothing(),
             ReadCharger::Read(s) => Answer {
                 result: [1, 0, 0, 0, 0, 0],
@@ -479,7 +479,7 @@ fn psu_row(record: &[u8]) -> Answer {
         return unreadable();
     }
     let bytes = changed(wide(at(record, 3), at(record, 4)), at(record, 5));
-    let r = records::psu::read_row(&bytes[..length], widen(at(record, 0)));
+    let r = interface_records::psu::read_row(&bytes[..length], widen(at(record, 0)));
     found(r.ok as u8)
 }
 
@@ -489,7 +489,7 @@ fn charger_row(record: &[u8]) -> Answer {
         return unreadable();
     }
     let bytes = changed(wide(at(record, 3), at(record, 4)), at(record, 5));
-    let r = records::charger::read_row(&bytes[..length], widen(at(record, 0)));
+    let r = interface_records::charger::read_row(&bytes[..length], widen(at(record, 0)));
     found(r.ok as u8)
 }
 

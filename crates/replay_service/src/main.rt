@@ -6,24 +6,24 @@ use abstract_policy::outcome::Step;
 use abstract_policy::state::InternalState;
 use abstract_policy::state::Records;
 use abstract_policy::state::Registration;
-use display::AvailableConsumer;
-use display::OptionAvailableConsumer;
-use display::providers::Providers;
-use event::memory::DisconnectedNotice;
-use event::memory::Memory;
-use event::memory::Notices;
-use event::memory::ProviderNotice;
-use event::memory::UnconstrainedNotice;
+use interface_display::AvailableConsumer;
+use interface_display::OptionAvailableConsumer;
+use interface_display::providers::Providers;
+use interface_records::group::Group;
 use libc::STDOUT_FILENO;
+use machine_service::Service;
+use machine_service::Started;
+use machine_service::Stepped;
+use machine_service::start;
+use machine_state::memory::DisconnectedNotice;
+use machine_state::memory::Memory;
+use machine_state::memory::Notices;
+use machine_state::memory::ProviderNotice;
+use machine_state::memory::UnconstrainedNotice;
 use power_policy_interface::psu;
 use power_policy_service::config::Config;
 use power_policy_service::config::OptionConfig;
 use power_policy_service::provider::PowerState;
-use records::group::Group;
-use service::Service;
-use service::Started;
-use service::Stepped;
-use service::start;
 ghost use Prim.Native.Nat.{_≤_};
 
 // What was compared.
@@ -144,18 +144,18 @@ fn read_records(registration: Registration) -> ReadRecords {
     }
 }
 
-fn read_psus(ports: u8) -> records::psu::Row {
+fn read_psus(ports: u8) -> interface_records::psu::Row {
     let mut bytes = [0u8; 288];
     let n = least(ports, 16);
     fill(&mut bytes, n * 18);
-    records::psu::read_row(front(&bytes, n * 18), n)
+    interface_records::psu::read_row(front(&bytes, n * 18), n)
 }
 
-fn read_chargers(chargers: u8) -> records::charger::Row {
+fn read_chargers(chargers: u8) -> interface_records::charger::Row {
     let mut bytes = [0u8; 56];
     let n = least(chargers, 8);
     fill(&mut bytes, n * 7);
-    records::charger::read_row(front(&bytes, n * 7), n)
+    interface_records::charger::read_row(front(&bytes, n * 7), n)
 }
 
 // Reads as many bytes to the front.

@@ -12,14 +12,14 @@ use borrow.Author.Tests.{leb-true}
 use Rattle.power_policy_interface.specs.Capability.{consumerFlagsByte, providerFlagsByte, capabilityFits}
 use Rattle.power_policy_interface.specs.declared.capability.PowerCapability.{PowerCapability}
 use Rattle.power_policy_interface.specs.declared.service.event.Event.{Event}
-use Rattle.display.specs.Notices.{listed, lengthOf, padded}
-use Rattle.display.specs.Providers.{len}
-use Rattle.display.specs.declared.OptionAvailableConsumer.{OptionAvailableConsumer}
-use Rattle.display.specs.declared.packet.EventPacket.{EventPacket}
-use Rattle.display.specs.declared.packet.Packet.{Packet}
-use Rattle.display.specs.declared.packet.Picture.{Picture}
-use Rattle.display.proofs.Count.{ones-le}
-use Rattle.display.proofs.Four.{at-most-four}
+use Rattle.interface_display.specs.Notices.{listed, lengthOf, padded}
+use Rattle.interface_display.specs.Providers.{len}
+use Rattle.interface_display.specs.declared.OptionAvailableConsumer.{OptionAvailableConsumer}
+use Rattle.interface_display.specs.declared.packet.EventPacket.{EventPacket}
+use Rattle.interface_display.specs.declared.packet.Packet.{Packet}
+use Rattle.interface_display.specs.declared.packet.Picture.{Picture}
+use Rattle.interface_display.proofs.Count.{ones-le}
+use Rattle.interface_display.proofs.Four.{at-most-four}
 use Rattle.wire.specs.Number.{leb128}
 use Rattle.wire.specs.Bytes.{capabilityBytes, contractBytes, noticeBytes, allBytes, portsBytes, consumerBytes, eventBytes, pictureBytes, packetBytes}
 use Rattle.wire.specs.WellFormed.{contractFits, noticeFits, noticesFit, consumerFits, eventFits, pictureFits, wellFormed}

@@ -12,14 +12,14 @@ use lib.ListN.{length}
 use borrow.Author.Tests.{le-leb, leb-true, lt-ltb, eq-eqb, ne-eqb, eqb-true, eqb-false}
 use Rattle.power_policy_interface.specs.declared.service.UnconstrainedState.{UnconstrainedState}
 use Rattle.power_policy_interface.specs.declared.service.event.Event.{Event}
-use Rattle.display.proofs.Four.{rebuilt, rebuilt-padded, rebuilt-listed}
-use Rattle.display.specs.Notices.{empty, pushed, listed, lengthOf, padded}
-use Rattle.display.specs.Providers.{ones, len}
-use Rattle.display.specs.declared.OptionAvailableConsumer.{OptionAvailableConsumer}
-use Rattle.display.specs.declared.notices.Notices.{Notices}
-use Rattle.display.specs.declared.packet.Packet.{Packet}
-use Rattle.display.specs.declared.packet.Picture.{Picture}
-use Rattle.display.specs.declared.providers.Providers.{Providers}
+use Rattle.interface_display.proofs.Four.{rebuilt, rebuilt-padded, rebuilt-listed}
+use Rattle.interface_display.specs.Notices.{empty, pushed, listed, lengthOf, padded}
+use Rattle.interface_display.specs.Providers.{ones, len}
+use Rattle.interface_display.specs.declared.OptionAvailableConsumer.{OptionAvailableConsumer}
+use Rattle.interface_display.specs.declared.notices.Notices.{Notices}
+use Rattle.interface_display.specs.declared.packet.Packet.{Packet}
+use Rattle.interface_display.specs.declared.packet.Picture.{Picture}
+use Rattle.interface_display.specs.declared.providers.Providers.{Providers}
 use Rattle.wire.specs.Number.{leb128}
 use Rattle.wire.specs.Parser.{Parsed, refused, parsed, byte, end, field, number}
 use Rattle.wire.specs.Packet.{notice, notices, ports, consumer, consumerGiven, unconstrained, eventNotices, eventAfter, event, pictureAfter, picture, packetOf, packet}

@@ -14,11 +14,11 @@ use Rattle.power_policy_interface.specs.declared.capability.ConsumerFlags.{Cons
 use Rattle.power_policy_interface.specs.declared.service.UnconstrainedState.{UnconstrainedState}
 use Rattle.power_policy_interface.specs.declared.service.event.Event.{Event}
 use Rattle.power_policy_interface.proofs.OneByte.{consumer-read-write, provider-read-write, reason-read-write}
-use Rattle.display.specs.Notices.{empty, pushed, listed, lengthOf, padded}
-use Rattle.display.specs.declared.notices.Notices.{Notices}
-use Rattle.display.specs.declared.packet.EventPacket.{EventPacket}
-use Rattle.display.specs.declared.packet.Packet.{Packet}
-use Rattle.display.proofs.Four.{at-most-four, rebuilt, padded-rebuilt}
+use Rattle.interface_display.specs.Notices.{empty, pushed, listed, lengthOf, padded}
+use Rattle.interface_display.specs.declared.notices.Notices.{Notices}
+use Rattle.interface_display.specs.declared.packet.EventPacket.{EventPacket}
+use Rattle.interface_display.specs.declared.packet.Packet.{Packet}
+use Rattle.interface_display.proofs.Four.{at-most-four, rebuilt, padded-rebuilt}
 use Rattle.wire.specs.Number.{leb128}
 use Rattle.wire.specs.Parser.{parsed, field, number}
 use Rattle.wire.specs.Packet.{capability, consumer, unconstrained, consumerDisconnected, consumerConnected, providerDisconnected, providerConnected, unconstrainedChanged, noticeOf, notice, notices, eventNotices, eventAfter, event, packetOf, packet}

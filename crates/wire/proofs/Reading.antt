@@ -15,9 +15,9 @@ use Rattle.wire.specs.Read.{noticesRead, portsRead}
 use Rattle.wire.specs.declared.number.ReadNumber.{ReadNumber}
 use Rattle.wire.specs.declared.packet.ReadNotices.{ReadNotices}
 use Rattle.wire.specs.declared.packet.ReadPorts.{ReadPorts}
-use Rattle.display.specs.declared.notices.Notices.{Notices}
-use Rattle.display.specs.declared.packet.Packet.{Packet}
-use Rattle.display.specs.declared.providers.Providers.{Providers}
+use Rattle.interface_display.specs.declared.notices.Notices.{Notices}
+use Rattle.interface_display.specs.declared.packet.Packet.{Packet}
+use Rattle.interface_display.specs.declared.providers.Providers.{Providers}
 
 pub rest-of : (s : List ℕ) (k : ℕ) → take (length s - k) (drop k s) ≡ drop k s
 rest-of s k =

@@ -13,10 +13,10 @@ use lib.Pow.{pow-mono}
 use lib.Seq.{drop-cons}
 use borrow.Author.Tests.{le-leb, lt-leb}
 use Rattle.power_policy_interface.specs.declared.service.event.Event.{Event}
-use Rattle.display.specs.Notices.{pushed}
-use Rattle.display.specs.declared.notices.Notices.{Notices}
-use Rattle.display.specs.declared.providers.Providers.{Providers}
-use Rattle.display.proofs.Count.{shifted}
+use Rattle.interface_display.specs.Notices.{pushed}
+use Rattle.interface_display.specs.declared.notices.Notices.{Notices}
+use Rattle.interface_display.specs.declared.providers.Providers.{Providers}
+use Rattle.interface_display.proofs.Count.{shifted}
 use Rattle.wire.specs.Parser.{Parsed, refused, parsed, then}
 use Rattle.wire.specs.Packet.{notice, notices, ports}
 

@@ -12,11 +12,11 @@ use lib.Dec.{eqb, leb, ltb}
 use lib.ListN.{length}
 use borrow.Author.Tests.{le-leb, leb-true, ltb-true, eqb-true, eqb-false}
 use Rattle.power_policy_interface.specs.Capability.{consumerFlagsByte}
-use Rattle.display.specs.Providers.{bitAt, ones, len}
-use Rattle.display.specs.declared.OptionAvailableConsumer.{OptionAvailableConsumer}
-use Rattle.display.specs.declared.packet.Packet.{Packet}
-use Rattle.display.specs.declared.packet.Picture.{Picture}
-use Rattle.display.specs.declared.providers.Providers.{Providers}
+use Rattle.interface_display.specs.Providers.{bitAt, ones, len}
+use Rattle.interface_display.specs.declared.OptionAvailableConsumer.{OptionAvailableConsumer}
+use Rattle.interface_display.specs.declared.packet.Packet.{Packet}
+use Rattle.interface_display.specs.declared.packet.Picture.{Picture}
+use Rattle.interface_display.specs.declared.providers.Providers.{Providers}
 use Rattle.wire.specs.Parser.{parsed, then, field, number}
 use Rattle.wire.specs.Packet.{ports, consumerGiven, pictureAfter, picture, packetOf, packet}
 use Rattle.wire.specs.Bytes.{portsFrom, portsBytes, contractBytes, consumerBytes, pictureBytes, unconstrainedBytes}

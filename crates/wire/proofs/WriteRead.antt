@@ -21,7 +21,7 @@ use Rattle.power_policy_interface.specs.declared.capability.OptionDisconnectFla
 use Rattle.power_policy_interface.specs.declared.service.UnconstrainedState.{UnconstrainedState}
 use Rattle.power_policy_interface.specs.declared.service.event.Event.{Event}
 use Rattle.power_policy_interface.proofs.OneByte.{consumer-write-read, provider-write-read, reason-write-read}
-use Rattle.display.specs.declared.AvailableConsumer.{AvailableConsumer}
+use Rattle.interface_display.specs.declared.AvailableConsumer.{AvailableConsumer}
 use Rattle.wire.specs.Number.{leb128, readNumber}
 use Rattle.wire.specs.Parser.{Parsed, refused, parsed, Parser, then, byte, holds, field, number, numberRest}
 use Rattle.wire.specs.Packet.{consumerFlagsGiven, providerFlagsGiven, reasonGiven, capability, consumer, unconstrained, consumerDisconnected, consumerConnected, providerDisconnected, providerConnected, unconstrainedChanged, noticeOf, notice}

@@ -1,8 +1,8 @@
 // Event packets and full pictures written as bytes (document 01, "Packets and follower"), which `wire` reads.
-use display::OptionAvailableConsumer;
-use display::notices::Notices;
-use display::packet::EventPacket;
-use display::packet::Picture;
+use interface_display::OptionAvailableConsumer;
+use interface_display::notices::Notices;
+use interface_display::packet::EventPacket;
+use interface_display::packet::Picture;
 use power_policy_interface::capability::PowerCapability;
 use power_policy_interface::limits::BUFFER;
 use power_policy_interface::limits::MAX_PORTS;
@@ -12,7 +12,7 @@ ghost use mathlib.Core.Path.{_≡_};
 ghost use Prim.Native.Nat.{_+_, _≤_};
 ghost use lib.ListN.{length};
 ghost use lib.Seq.{sets};
-ghost use Rattle.display.specs.Notices.{listed};
+ghost use Rattle.interface_display.specs.Notices.{listed};
 ghost use Rattle.wire.specs.Bytes.{capabilityBytes, contractBytes, noticeBytes, allBytes, consumerBytes, portsBytes, eventBytes, pictureBytes};
 ghost use Rattle.wire_writer.specs.Stored.{stored, writtenOf};
 

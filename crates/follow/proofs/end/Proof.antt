@@ -2,8 +2,8 @@
 use mathlib.Core.Path.{refl}
 use denote.Ref.{now}
 use lib.ListN.{replicate}
-use Rattle.report.specs.Desk.{endBytes}
-use Rattle.report.proofs.Lengths.{in-buffer, end-length}
+use Rattle.desk_report.specs.Desk.{endBytes}
+use Rattle.desk_report.proofs.Lengths.{in-buffer, end-length}
 use borrow.Author.Needs.{needs}
 use Rattle.follow.proofs.end.Statement.{statement}
 use Rattle.follow.proofs.end.Tie as tie

@@ -2,8 +2,8 @@
 use mathlib.Core.Path.{refl}
 use native.Mathlib.Omega.{arith}
 use lib.ListN.{replicate}
-use Rattle.report.specs.Text.{header}
-use Rattle.report.proofs.Lengths.{in-buffer}
+use Rattle.desk_report.specs.Text.{header}
+use Rattle.desk_report.proofs.Lengths.{in-buffer}
 use borrow.Author.Needs.{needs}
 use Rattle.follow.proofs.main.Statement.{statement}
 use Rattle.follow.proofs.main.Tie as tie

@@ -4,7 +4,7 @@ use Prim.Native.Nat.{_≤_, _<_, _-_}
 use native.Mathlib.Omega.{arith}
 use denote.Ref.{now}
 use lib.ListN.{length, drop, length-drop}
-use Rattle.report.specs.Reads.{takeAll}
+use Rattle.desk_report.specs.Reads.{takeAll}
 use Rattle.follow.specs.Took.{left}
 use Rattle.follow.proofs.Takes.{used-within, step-used, step-more, step-stop, none-more}
 use borrow.Author.Needs.{needs}

@@ -2,8 +2,8 @@
 use mathlib.Core.Path.{refl}
 use denote.Ref.{now}
 use lib.ListN.{replicate}
-use Rattle.report.specs.Desk.{steppedBytes}
-use Rattle.report.proofs.Lengths.{in-buffer, step-length}
+use Rattle.desk_report.specs.Desk.{steppedBytes}
+use Rattle.desk_report.proofs.Lengths.{in-buffer, step-length}
 use borrow.Author.Needs.{needs}
 use Rattle.follow.proofs.take_one.Statement.{statement}
 use Rattle.follow.proofs.take_one.Tie as tie

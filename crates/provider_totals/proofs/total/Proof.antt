@@ -8,7 +8,7 @@ use prog.Memory.{Memory}
 use prog.Routine.{Routine}
 use prog.Wp.{Heap}
 use Rattle.power_policy_service.specs.Provider.{connectedMw}
-use Rattle.psu_in_place.proofs.Types.{state}
+use Rattle.policy_in_place.proofs.Types.{state}
 use Rattle.provider_totals.proofs.Past.{past}
 use Rattle.provider_totals.proofs.Summed.{Keeps, summed}
 use Rattle.provider_totals.proofs.connected_mw.Symbol as figure

@@ -8,7 +8,7 @@ use prog.Memory.{Memory}
 use prog.Routine.{Routine}
 use prog.Wp.{Heap}
 use Rattle.power_policy_service.specs.Provider.{requestedMw}
-use Rattle.psu_in_place.proofs.Types.{state, provider}
+use Rattle.policy_in_place.proofs.Types.{state, provider}
 use Rattle.provider_totals.proofs.Past.{past}
 use Rattle.provider_totals.proofs.SummedWith.{Keeps, summed-with}
 use Rattle.provider_totals.proofs.target_mw.Symbol as figure

@@ -4,7 +4,7 @@ use mathlib.Core.List.{[]}
 use Prim.Native.Nat.{_≤_}
 use native.Mathlib.Omega.{arith}
 use denote.Ref.{now}
-use Rattle.display.proofs.Four.{all-four}
+use Rattle.interface_display.proofs.Four.{all-four}
 use Rattle.wire.specs.Bytes.{noticeBytes}
 use Rattle.wire.proofs.Stores.{Put, joined}
 use borrow.Author.Needs.{needs}

@@ -8,7 +8,7 @@ use Rattle.wire.specs.Bytes.{eventBytes}
 use Rattle.wire.proofs.Stores.{Put, one, joined, kept, put-number, length-to}
 use borrow.Author.Tests.{lt-ltb, le-ltb}
 use native.Mathlib.Nat.{zero-add}
-use Rattle.display.specs.Notices.{listed}
+use Rattle.interface_display.specs.Notices.{listed}
 use Rattle.wire.specs.Bytes.{allBytes}
 use Rattle.wire_writer.specs.declared.Written.{Written}
 use borrow.Author.Needs.{needs}

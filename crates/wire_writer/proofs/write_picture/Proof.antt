@@ -11,7 +11,7 @@ use Rattle.wire.proofs.Stores.{Put, one, joined, kept, put-number, length-to, t
 use borrow.Author.Tests.{lt-ltb, le-ltb}
 use mir.Val.{boolByte}
 use native.Mathlib.Nat.{zero-add}
-use Rattle.display.proofs.Count.{ones-le}
+use Rattle.interface_display.proofs.Count.{ones-le}
 use Rattle.wire_writer.specs.declared.Written.{Written}
 use borrow.Author.Needs.{needs}
 use Rattle.wire_writer.proofs.write_picture.Statement.{statement}

@@ -5,9 +5,9 @@ use lib.ListN.{drop}
 use Rattle.wire.proofs.Reading.{rest-of, notices-ended, notices-failed}
 use Rattle.wire.specs.Parser.{number}
 use Rattle.wire.specs.Packet.{eventNotices, notices}
-use Rattle.display.specs.Notices.{empty}
-use Rattle.display.specs.declared.notices.Notices.{Notices}
-use Rattle.display.specs.declared.packet.Packet.{Packet}
+use Rattle.interface_display.specs.Notices.{empty}
+use Rattle.interface_display.specs.declared.notices.Notices.{Notices}
+use Rattle.interface_display.specs.declared.packet.Packet.{Packet}
 use borrow.Author.Needs.{needs}
 use Rattle.wire.proofs.packet.read_event_notices.Statement.{statement}
 use Rattle.wire.proofs.packet.read_event_notices.Tie as tie

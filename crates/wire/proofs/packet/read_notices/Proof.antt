@@ -5,7 +5,7 @@ use native.Mathlib.Omega.{arith}
 use borrow.Author.Needs.{needs}
 use denote.Ref.{now}
 use lib.ListN.{drop}
-use Rattle.display.specs.Notices.{empty}
+use Rattle.interface_display.specs.Notices.{empty}
 use Rattle.wire.specs.Packet.{notice, notices}
 use Rattle.wire.specs.Read.{noticesRead}
 use Rattle.wire.proofs.Reading.{rest-of, none-left, some-left}

@@ -5,8 +5,8 @@ use lib.ListN.{drop}
 use Rattle.wire.proofs.Reading.{rest-of, ports-ended, ports-failed}
 use Rattle.wire.specs.Parser.{number}
 use Rattle.wire.specs.Packet.{consumer, unconstrained, pictureAfter, ports}
-use Rattle.display.specs.declared.providers.Providers.{Providers}
-use Rattle.display.specs.declared.packet.Packet.{Packet}
+use Rattle.interface_display.specs.declared.providers.Providers.{Providers}
+use Rattle.interface_display.specs.declared.packet.Packet.{Packet}
 use borrow.Author.Needs.{needs}
 use Rattle.wire.proofs.packet.read_picture_after.Statement.{statement}
 use Rattle.wire.proofs.packet.read_picture_after.Tie as tie

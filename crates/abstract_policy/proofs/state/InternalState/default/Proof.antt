@@ -1,6 +1,6 @@
 -- The set is what `Providers::new` returns.
 use borrow.Author.Needs.{needs}
-use Rattle.display.proofs.providers.Providers.new.Reads as new-reads
+use Rattle.interface_display.proofs.providers.Providers.new.Reads as new-reads
 use Rattle.abstract_policy.proofs.state.InternalState.default.Statement.{statement}
 use Rattle.abstract_policy.proofs.state.InternalState.default.Tie as tie
 use Rattle.abstract_policy.proofs.state.InternalState.default.Reads as reads

@@ -1,0 +1,19 @@
+-- By cases on the notice.
+use borrow.Author.Needs.{needs}
+use Rattle.bytes_service_image.proofs.well_formed.unconstrained_fits.Statement.{statement}
+use Rattle.bytes_service_image.proofs.well_formed.unconstrained_fits.Tie as tie
+
+enum-told : tie.Need-enum-told
+enum-told c = search needs
+
+enum-known-n : tie.Need-enum-known-n
+enum-known-n c = search needs
+
+returns : tie.Need-returns
+returns c = search needs
+
+returns-2 : tie.Need-returns-2
+returns-2 c = rw (c .before .before .n .given .1)
+
+pub unconstrained-fits-spec : {M : Type 1} → statement M
+unconstrained-fits-spec = tie.close (tie.spec enum-told enum-known-n returns returns-2)

@@ -1,0 +1,17 @@
+-- The greatest stays.
+use borrow.Author.Tests.{lt-ltb, le-ltb}
+use borrow.Author.Needs.{needs}
+use Rattle.desk_report.proofs.desk.count.Statement.{statement}
+use Rattle.desk_report.proofs.desk.count.Tie as tie
+
+add-result : tie.Need-add-result
+add-result c = search needs
+
+returns : tie.Need-returns
+returns c = rw (lt-ltb _ _ (c .if1 .taken))
+
+returns-2 : tie.Need-returns-2
+returns-2 c = rw (le-ltb _ _ (c .if1 .left))
+
+pub count-spec : {M : Type 1} → statement M
+count-spec = tie.close (tie.spec add-result returns returns-2)

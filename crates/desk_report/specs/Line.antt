@@ -1,0 +1,36 @@
+-- A line of `follow`.
+use Prim.Native.Nat.{ℕ}
+use mathlib.Core.List.{List, [], _∷_, _++_}
+use Rattle.desk_follower.specs.Follower.{numberOf, stateOf, portOf, mwOf}
+use Rattle.desk_follower.specs.declared.Follower.{Follower}
+use Rattle.desk_report.specs.Text.{decimal, number, word, refused}
+use Rattle.desk_report.specs.declared.line.Line.{Line}
+
+-- what a line says of a follower: n, state, consumer port, its mW
+unfoldable pub lineOf : Follower → Line
+lineOf f =
+    record {
+      shown = numberOf (f .shown);
+      state = stateOf f;
+      port = portOf (f .shown);
+      mw = mwOf (f .shown);
+    }
+
+-- a space before each of them
+abbrev pub spaced : List ℕ → List ℕ
+spaced l = 32 ∷ l
+
+-- ordinal, n, state, port, mW
+unfoldable pub lineBytes : ℕ → Line → List ℕ
+lineBytes k l =
+    decimal k
+    ++ (spaced (number (l .shown))
+    ++ (spaced (word (l .state)) ++ (spaced (number (l .port)) ++ (spaced (number (l .mw)) ++ (10 ∷ [])))))
+
+-- `K refused N`
+unfoldable pub refusedBytes : ℕ → ℕ → List ℕ
+refusedBytes k n = decimal k ++ (refused ++ (decimal n ++ (10 ∷ [])))
+
+-- the line after a packet that was taken
+abbrev pub line : ℕ → Follower → List ℕ
+line k f = lineBytes k (lineOf f)

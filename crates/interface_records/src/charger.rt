@@ -1,0 +1,102 @@
+// The charger record, 7 bytes: the state's number, and the capability as a group.
+use crate::group::Group;
+use crate::group::ReadConsumer;
+use power_policy_interface::charger::InternalState;
+use power_policy_interface::charger::PoweredSubstate;
+use power_policy_interface::charger::State;
+ghost use mathlib.Core.Path.{_≡_};
+ghost use Rattle.interface_records.specs.Charger.{internalFrom, chargerBytes, chargerFrom, chargerRow};
+
+// What reading a charger record finds.
+pub enum ReadCharger {
+    Refused,
+    Read(State),
+}
+
+// What reading a charger's state byte finds.
+pub enum ReadInternalState {
+    Refused,
+    Read(InternalState),
+}
+
+// The state of a byte: 0 Unpowered, 1 Init, 2 PsuAttached, 3 PsuDetached.
+pub fn read_state(b: u8) -> ReadInternalState
+    ensures { λ r. ⌜ r ≡ internalFrom b ⌝ }
+{
+    match b {
+        0 => ReadInternalState::Read(InternalState::Unpowered),
+        1 => ReadInternalState::Read(InternalState::Powered(PoweredSubstate::Init)),
+        2 => ReadInternalState::Read(InternalState::Powered(PoweredSubstate::PsuAttached)),
+        3 => ReadInternalState::Read(InternalState::Powered(PoweredSubstate::PsuDetached)),
+        _ => ReadInternalState::Refused,
+    }
+}
+
+// The 7 bytes of a record.
+pub fn write(s: State) -> [u8; 7]
+    ensures { λ r. ⌜ r ≡ chargerBytes s ⌝ }
+{
+    let state = s.state;
+    let capability = s.capability;
+    let n = state.number();
+    let g = Group::of_option_consumer(capability);
+    [n, g.number, g.v0, g.v1, g.c0, g.c1, g.flags]
+}
+
+// The record of 7 bytes; refused for bytes that no record is written as.
+pub fn read(s: &[u8]) -> ReadCharger
+    ensures { λ r. ⌜ r ≡ chargerFrom (now (s .entry)) ⌝ }
+{
+    if s.len() != 7 {
+        return ReadCharger::Refused;
+    }
+    let ReadInternalState::Read(state) = read_state(s[0]) else {
+        return ReadCharger::Refused;
+    };
+    let ReadConsumer::Read(capability) = Group::at(s, 1).option_consumer() else {
+        return ReadCharger::Refused;
+    };
+    ReadCharger::Read(State { state, capability })
+}
+
+// The records of up to 8 chargers; those past the last charger are default records. Refused as a whole: all are.
+pub struct Row {
+    pub ok: bool,
+    pub chargers: [State; 8],
+}
+
+// The records of so many chargers, one after the other: refused on more than 8, a wrong length or any refused record.
+pub fn read_row(s: &[u8], count: usize) -> Row
+    ensures { λ r. ⌜ r ≡ chargerRow count (now (s .entry)) ⌝ }
+{
+    let mut chargers = [State::default(); 8];
+    let refused = chargers;
+    if 8 < count {
+        return Row {
+            ok: false,
+            chargers: refused,
+        };
+    }
+    if s.len() != count * 7 {
+        return Row {
+            ok: false,
+            chargers: refused,
+        };
+    }
+    let mut i: usize = 0;
+    while i < count {
+        match read(&s[i * 7..i * 7 + 7]) {
+            ReadCharger::Refused => {
+                return Row {
+                    ok: false,
+                    chargers: refused,
+                };
+            }
+            ReadCharger::Read(c) => {
+                chargers[i] = c;
+            }
+        }
+        i += 1;
+    }
+    Row { ok: true, chargers }
+}

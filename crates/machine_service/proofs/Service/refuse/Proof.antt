@@ -1,0 +1,10 @@
+-- What the calls ensure, by the tests on the way, is the definition.
+use borrow.Author.Needs.{needs}
+use Rattle.machine_service.proofs.Service.refuse.Statement.{statement}
+use Rattle.machine_service.proofs.Service.refuse.Tie as tie
+
+returns : tie.Need-returns
+returns c = search needs
+
+pub refuse-spec : {M : Type 1} → statement M
+refuse-spec = tie.close (tie.spec returns)
