@@ -2,7 +2,7 @@
 use Prim.Native.Nat.{ℕ, _+_, _*_, _^_}
 use mathlib.Core.Bool.{Bool, true, false, not, _&&_, _||_}
 use lib.Dec.{leb, ltb}
-use Rattle.power_policy_interface.specs.Limits.{maxPorts, maxChargers}
+use Rattle.power_policy_interface.specs.Limits.{largest, maxPorts, maxChargers}
 use Rattle.power_policy_interface.specs.declared.psu.Error.{Error}
 use Rattle.power_policy_interface.specs.declared.psu.OptionMismatch.{OptionMismatch}
 use Rattle.power_policy_interface.specs.declared.psu.Result.{Result}
@@ -180,7 +180,7 @@ tells (Phase.Providing p c) n = nothingTold n
 
 -- an open event can still have a number
 abbrev pub numberFits : Phase → ℕ → Bool
-numberFits p n = not (isOpen p) || ltb n 4294967295
+numberFits p n = not (isOpen p) || ltb n largest
 
 abbrev pub eventFits : ℕ → ℕ → Phase → ℕ → ℕ → Notices → Bool
 eventFits ports chargers p number orders n =

@@ -4,7 +4,7 @@ use mathlib.Core.Bool.{false}
 use mathlib.Core.List.{[], _∷_}
 use mathlib.Core.Path.{_≡_}
 use lib.Dec.{eqb}
-use Rattle.power_policy_interface.specs.Limits.{maxChargers}
+use Rattle.power_policy_interface.specs.Limits.{largest, maxChargers}
 use Rattle.abstract_policy.specs.Refusals.{firstRefused}
 use Rattle.abstract_policy.specs.Given.{eventOf}
 use Rattle.abstract_policy.specs.Action.{Interaction, done, ask}
@@ -45,7 +45,7 @@ pub record Opens (s : Service) (kind device detail : ℕ) : Type 0 where
 -- what a start registers, and a number of 32 bits
 pub record Registered (s : Service) : Type 0 where
   pub chargers : s .registration .chargers ≤ maxChargers
-  pub number : s .number ≤ 4294967295
+  pub number : s .number ≤ largest
 
 -- the event that is opened
 abbrev pub eventAt : Service → ℕ → ℕ → ℕ → Records → Interaction

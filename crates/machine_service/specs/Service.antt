@@ -2,6 +2,7 @@
 use Prim.Native.Nat.{ℕ, suc}
 use mathlib.Core.Bool.{cond}
 use lib.Dec.{ltb, eqb}
+use Rattle.power_policy_interface.specs.Limits.{largest}
 use Rattle.power_policy_interface.specs.declared.psu.Result.{Result}
 use Rattle.power_policy_interface.specs.declared.psu.event.EventData.{EventData}
 use Rattle.power_policy_service.specs.declared.config.Config.{Config}
@@ -72,7 +73,7 @@ answerIn (Phase.Providing p c) = Result.Ok
 
 -- a close gives the event its number, and tells how many orders it has given
 abbrev pub closedBy : Registration → ℕ → ℕ → Turn → Stepped
-closedBy g n k t = stepped (Step.Closed (answerIn (t .phase)) k) (serviceWith g (increment 4294967295 n) k t)
+closedBy g n k t = stepped (Step.Closed (answerIn (t .phase)) k) (serviceWith g (increment largest n) k t)
 
 -- an order counts
 abbrev pub orderedBy : Registration → ℕ → ℕ → Turn → Order → Stepped

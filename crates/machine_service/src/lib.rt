@@ -2,15 +2,15 @@
 pub mod refusals;
 pub mod send;
 
-use crate::refusals::answer_refusal;
-use crate::refusals::is_waiting;
-use crate::refusals::open_refusal;
 use abstract_policy::order::OptionOrder;
 use abstract_policy::order::Order;
 use abstract_policy::outcome::Step;
 use abstract_policy::state::InternalState;
 use abstract_policy::state::Records;
 use abstract_policy::state::Registration;
+use crate::refusals::answer_refusal;
+use crate::refusals::is_waiting;
+use crate::refusals::open_refusal;
 use machine_process::answered;
 use machine_process::process_psu_event;
 use machine_state::memory::Memory;
@@ -21,12 +21,13 @@ use power_policy_interface::capability::DisconnectFlags;
 use power_policy_interface::capability::OptionDisconnectFlags;
 use power_policy_interface::limits::MAX_CHARGERS;
 use power_policy_interface::limits::MAX_PORTS;
-use power_policy_interface::psu;
 use power_policy_interface::psu::event::EventData;
+use power_policy_interface::psu;
 use power_policy_service::config::Config;
 use power_policy_service::config::OptionConfig;
 ghost use mathlib.Core.Path.{_≡_};
 ghost use Prim.Native.Nat.{_<_};
+ghost use Rattle.power_policy_interface.specs.Limits.{largest};
 ghost use Rattle.abstract_policy.specs.Refusals.{firstRefused};
 ghost use Rattle.abstract_policy.specs.Given.{flagsOf, eventOf, resultOf};
 ghost use Rattle.machine_service.specs.Refusals.{isOpen, openRefusals};
@@ -191,7 +192,7 @@ fn one_more(orders: u8) -> u8
 
 // The next event number; the last is never passed, since 28 turns the event back.
 fn next_number(number: u32) -> u32
-    ensures { λ r. ⌜ r ≡ increment 4294967295 number ⌝ }
+    ensures { λ r. ⌜ r ≡ increment largest number ⌝ }
 {
     if number < 0xffff_ffff {
         return number + 1;

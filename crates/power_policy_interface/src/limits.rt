@@ -1,5 +1,8 @@
 // Limits and lengths that the documents name, each once; the definitions' are in specs/Limits.antt.
 
+// The greatest number of 32 bits: of milliwatts, and of an event.
+pub const LARGEST: u32 = 4294967295;
+
 // Ports that can be registered.
 pub const MAX_PORTS: u8 = 16;
 

@@ -6,7 +6,7 @@ use mathlib.Core.List.{List, _++_, flatten}
 use mathlib.Core.Logic.{_↔_}
 use mathlib.Core.Path.{_≡_}
 use lib.ListN.{length, drop}
-use Rattle.power_policy_interface.specs.Limits.{followerLength, bufferLength}
+use Rattle.power_policy_interface.specs.Limits.{largest, followerLength, bufferLength}
 use Rattle.power_policy_interface.specs.declared.charger.State as charger
 use Rattle.power_policy_interface.specs.declared.psu.State as psu
 use Rattle.interface_records.specs.Row.{AllBytes}
@@ -86,7 +86,7 @@ pub record Layout : Type 0 where
   pub packet : (y : List ℕ) (p : Packet) → AllBytes y → (readPacket y ≡ ReadPacket.Packet p) ↔ ((y ≡ packetBytes p) × (wire.wellFormed p ≡ true))
   pub packet-length : (p : Packet) → wire.wellFormed p ≡ true → length (packetBytes p) ≤ bufferLength
   -- A number is read from its groups of seven bits, in shortest form, and from nothing else.
-  pub number-back : (limit n : ℕ) (r : List ℕ) → n ≤ limit → n ≤ 4294967295 → readNumber limit (leb128 n ++ r) ≡ ReadNumber.Number n (length (leb128 n))
+  pub number-back : (limit n : ℕ) (r : List ℕ) → n ≤ limit → n ≤ largest → readNumber limit (leb128 n ++ r) ≡ ReadNumber.Number n (length (leb128 n))
   pub number-bytes : (limit : ℕ) (y : List ℕ) (n u : ℕ) → AllBytes y → readNumber limit y ≡ ReadNumber.Number n u → y ≡ leb128 n ++ drop u y
   -- Bytes are read as a record exactly if they are its bytes.
   pub psu-record : (b : List ℕ) (s : psu.State) → AllBytes b → (psuFrom b ≡ ReadPsu.Read s) ↔ (b ≡ psuBytes s)

@@ -1,7 +1,8 @@
 // Packets in a stream: length# (1 to 64), packet, repeated (document 01, program `follow`).
 use power_policy_interface::limits::BUFFER;
-use wire::number;
+use power_policy_interface::limits::LARGEST;
 use wire::number::ReadNumber;
+use wire::number;
 ghost use mathlib.Core.Path.{_≡_};
 ghost use Rattle.wire_framing.specs.Framing.{framed, sized};
 
@@ -47,7 +48,7 @@ pub fn frame(s: &[u8]) -> Framed
     if s.len() == 0 {
         return Framed::Empty;
     }
-    match number::read(s, 4294967295) {
+    match number::read(s, LARGEST) {
         ReadNumber::Refused(n) => {
             if n == 30 {
                 return Framed::Cut;
