@@ -2,15 +2,15 @@
 pub mod refusals;
 pub mod send;
 
+use crate::refusals::answer_refusal;
+use crate::refusals::is_waiting;
+use crate::refusals::open_refusal;
 use abstract_policy::order::OptionOrder;
 use abstract_policy::order::Order;
 use abstract_policy::outcome::Step;
 use abstract_policy::state::InternalState;
 use abstract_policy::state::Records;
 use abstract_policy::state::Registration;
-use crate::refusals::answer_refusal;
-use crate::refusals::is_waiting;
-use crate::refusals::open_refusal;
 use machine_process::answered;
 use machine_process::process_psu_event;
 use machine_state::memory::Memory;
@@ -21,8 +21,8 @@ use power_policy_interface::capability::DisconnectFlags;
 use power_policy_interface::capability::OptionDisconnectFlags;
 use power_policy_interface::limits::MAX_CHARGERS;
 use power_policy_interface::limits::MAX_PORTS;
-use power_policy_interface::psu::event::EventData;
 use power_policy_interface::psu;
+use power_policy_interface::psu::event::EventData;
 use power_policy_service::config::Config;
 use power_policy_service::config::OptionConfig;
 ghost use mathlib.Core.Path.{_≡_};

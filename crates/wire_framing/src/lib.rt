@@ -1,8 +1,8 @@
 // Packets in a stream: length# (1 to 64), packet, repeated (document 01, program `follow`).
 use power_policy_interface::limits::BUFFER;
 use power_policy_interface::limits::LARGEST;
-use wire::number::ReadNumber;
 use wire::number;
+use wire::number::ReadNumber;
 ghost use mathlib.Core.Path.{_≡_};
 ghost use Rattle.wire_framing.specs.Framing.{framed, sized};
 
