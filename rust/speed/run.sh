@@ -1,5 +1,5 @@
 #!/bin/bash
-# usage: run.sh [ROUNDS [PREFIX]]
+# usage: run.sh [--hold RATIO] [ROUNDS [PREFIX]]
 #
 # Builds and runs the program of this folder with these arguments, then prints the size of the archive: all of it, and what a link keeps that calls the
 # service's functions alone, or the follower's. The archive is in target/staticlib or where POWER_POLICY_LIB says. The original Rust is timed where its

@@ -179,6 +179,8 @@ pub struct List<'a> {
     pub function: Function,
     /// Whether a call goes on with the image that the call before left; then the first image alone counts.
     pub goes_on: bool,
+    /// Whether the archive is held to a ratio to plain Rust here (`--hold`).
+    pub held: bool,
     pub calls: Vec<(Vec<u8>, Lent<'a>)>,
 }
 
@@ -192,6 +194,7 @@ impl<'a> List<'a> {
             name: name.into(),
             function,
             goes_on: false,
+            held: false,
             calls: calls.into_iter().collect(),
         }
     }
@@ -292,8 +295,16 @@ impl Stream {
         }
     }
 
-    /// The calls of a follower: all packets in turn, and so many of each other kind.
+    /// The calls of a follower: all packets in turn, and so many of each other kind. Held to a ratio are all but those that apply notices.
     pub fn calls(&self, count: usize) -> Vec<List<'_>> {
+        let mut lists = self.all_calls(count);
+        for list in &mut lists {
+            list.held = !list.name.contains("applied");
+        }
+        lists
+    }
+
+    fn all_calls(&self, count: usize) -> Vec<List<'_>> {
         let (packets, pictures) = (&self.packets, &self.pictures);
         let (level, waiting, lost) = (&self.level, &self.waiting, &self.lost);
         let read = |name, function, images: &[Vec<u8>]| {
