@@ -1,4 +1,4 @@
-// Limits and lengths that the documents name, each once; the definitions' are in specs/Limits.antt.
+// Limits and lengths that docs/REQUIREMENTS.md names, each once; the definitions' are in specs/Limits.antt.
 
 // Ports that can be registered.
 pub const MAX_PORTS: u8 = 16;
