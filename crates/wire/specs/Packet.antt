@@ -59,8 +59,9 @@ unconstrained = do
   n ← field 16
   done (record { unconstrained = eqb u 1; available = n })
 
--- PKT-10 to PKT-14: the notices, by their kinds
+-- the notices, by their kinds
 
+-- PKT-10: port, reason
 unfoldable pub consumerDisconnected : Parser Event
 consumerDisconnected = do
   port ← field 15
@@ -68,16 +69,19 @@ consumerDisconnected = do
   reason ← reasonGiven (disconnectFrom b)
   done (Event.ConsumerDisconnected port reason)
 
+-- PKT-11: port, mV, mA, flags
 unfoldable pub consumerConnected : Parser Event
 consumerConnected = do
   c ← consumer
   done (Event.ConsumerConnected (c .psu) (c .«consumer_power_capability»))
 
+-- PKT-12: port
 unfoldable pub providerDisconnected : Parser Event
 providerDisconnected = do
   port ← field 15
   done (Event.ProviderDisconnected port)
 
+-- PKT-13: port, mV, mA, flags
 unfoldable pub providerConnected : Parser Event
 providerConnected = do
   port ← field 15
@@ -86,6 +90,7 @@ providerConnected = do
   f ← providerFlagsGiven (providerFlagsFrom b)
   done (Event.ProviderConnected port (record { capability = c; flags = f }))
 
+-- PKT-14: unconstrained, available
 unfoldable pub unconstrainedChanged : Parser Event
 unconstrainedChanged = do
   u ← unconstrained
