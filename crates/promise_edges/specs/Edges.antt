@@ -1,5 +1,5 @@
--- EDG-13: the edges as theorems about the definitions: of the contracts, of the event (abstract_policy specs/Edges.antt; the service follows it, crate
--- interaction) and of `follow`. The record is the table, `edges` its proof.
+-- EDG-13: the edges as theorems about the definitions: of the contracts, of the event (abstract_policy specs/Edges.antt; the service follows it,
+-- machine_follows) and of `follow`. The record is the table, `edges` its proof.
 use mathlib.Core.Path.{_≡_, refl}
 use mathlib.Core.Bool.{Bool, true, false}
 use mathlib.Core.List.{List, [], _∷_, _++_}
