@@ -20,7 +20,7 @@ ROW = re.compile(r"^\| ((?:%s|S\d+)-\d+[a-z]?) \|(.*)\|$" % SECTIONS, re.M)
 # where a citation counts
 KEEPS = re.compile(r"crates/\w+/(specs|src|proofs|must-fail)/|tests/edits/|docs/(PROMISES|DIFFERENCES|DECISIONS)\.md$")
 LEFTOVERS = re.compile(r"[Dd]ocument[ ]0\d|[Ss]ection[ ]6\b|[Tt]he[ ]scope\b|[Tt]he[ ]papers?\b|\b0[12]'s\b")
-DOCUMENTS = re.compile(r"README\.md$|docs/[\w/-]+\.md$|rust/(\w+/)?README\.md$")
+DOCUMENTS = re.compile(r"README\.md$|docs/[\w/-]+\.md$|rust/([\w-]+/)?README\.md$")
 NOT_WRAPPED = {"README.md"}
 COLUMNS = 100
 

@@ -59,7 +59,7 @@ consumerFlag (OptionAvailableConsumer.Some c) = c .«consumer_power_capability»
 abbrev pub unconstrainedOf : Registration → InternalState → Records → UnconstrainedState
 unconstrainedOf g s r = record { unconstrained = consumerFlag (s .«current_consumer_state»); available = availableOf r (g .ports) }
 
--- UPD-13
+-- UPD-13: told where one of the two figures differs
 unfoldable pub updateUnconstrainedState : Registration → Action (Unit {0})
 updateUnconstrainedState g = do
   s ← state
@@ -161,14 +161,14 @@ updateCurrentConsumer g flags = do
 
 -- provider.rs: PRV
 
--- PRV-7, PRV-8
+-- PRV-7: tracked if there or fewer than four are; PRV-8: told anyway
 unfoldable pub postProviderConnected : ℕ → ProviderPowerCapability → Action (Unit {0})
 postProviderConnected requester target = do
   s ← state
   set (withProviders (insertOf (s .«connected_providers») requester .providers))
   notify (Event.ProviderConnected requester target)
 
--- PRV-1 to PRV-6
+-- PRV-1: no request, no error. PRV-2 to PRV-6: else the power state is set, and what it grants is ordered
 unfoldable pub provide : Registration → ℕ → OptionProviderPowerCapability → Action (Unit {0})
 provide g requester OptionProviderPowerCapability.None = skip
 provide g requester (OptionProviderPowerCapability.Some requested) = do
@@ -185,7 +185,7 @@ connectProvider g requester = do
   r ← records
   provide g requester (psuOf r requester .«requested_provider_capability»)
 
--- EVT-8 to EVT-10
+-- EVT-9: the power state by what is left, and the notice; EVT-10: nothing for a port that was not tracked
 unfoldable pub removeProvider : Registration → ℕ → Removed → Action (Unit {0})
 removeProvider g port removed =
     when (removed .found) (do
@@ -194,6 +194,7 @@ removeProvider g port removed =
       set (withPowerState (powerStateOf (g .config) (totalOf (r .psus) (min maxPorts (g .ports)))))
       notify (Event.ProviderDisconnected port))
 
+-- EVT-8: the port is taken out of the tracked providers
 unfoldable pub postProviderRemoved : Registration → ℕ → Action (Unit {0})
 postProviderRemoved g port = do
   s ← state
@@ -207,7 +208,7 @@ noReason = record { reason = OptionDisconnectReason.None }
 abbrev pub detachedReason : DisconnectFlags
 detachedReason = record { reason = OptionDisconnectReason.Some DisconnectReason.Detached }
 
--- EVT-11 to EVT-16
+-- EVT-11 to EVT-16: what each kind of event does
 unfoldable pub processPsuEvent : Registration → ℕ → EventData → Action (Unit {0})
 processPsuEvent g device EventData.Attached = skip
 processPsuEvent g device EventData.UpdatedConsumerCapability = updateCurrentConsumer g noReason

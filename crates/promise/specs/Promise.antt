@@ -108,7 +108,7 @@ pub record Serves (f : Functions) (image : List ℕ) (g : Registration) : Type 0
   -- An image stays so many bytes, so that it can be started anew.
   pub size : (l : List ByteCall) → CallsBytes l → length (images f image l) ≡ serviceLength
   pub bytes : (l : List ByteCall) → CallsBytes l → AllBytes (images f image l)
-  -- DEM-3
+  -- DEM-3: what the desk shows of these calls.
   pub link : (calls : List ByteCall) → CallsBytes calls → (x : List ℕ) → length x ≡ followerLength → Link f image g calls x
 
 -- A start, whatever its arguments.

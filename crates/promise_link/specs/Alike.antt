@@ -30,7 +30,7 @@ unfoldable pub heldFrom : Held → ℕ → ℕ → List EventPacket
 heldFrom h m zero = []
 heldFrom h m (suc k) = one h m ++ heldFrom h (m + 1) k
 
--- a follower of the code, as the abstract one: what waits are the packets of n + 2 to n + 8
+-- a follower of the code, seen as the abstract one: what waits are the packets of n + 2 to n + 8
 abbrev pub seenAt : Shown → Held → paper.Follower
 seenAt (Shown.Lost floor) h = paper.lost floor
 seenAt (Shown.Picture s) h = paper.showing (s .number) (s .display) (heldFrom h (s .number + 2) 7)
