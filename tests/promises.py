@@ -18,6 +18,8 @@ ROOT = os.path.dirname(os.path.dirname(os.path.abspath(__file__)))
 PROMISES = os.path.join(ROOT, "docs", "PROMISES.md")
 FUNCTIONS = os.path.join(ROOT, "docs", "FUNCTIONS.md")
 
+# The columns that name what is declared.
+NAMING = ("definition", "function", "law", "theorem or contract")
 # Names of the language and of its library, and words that are no name.
 LIBRARY = {"getD", "max", "cond", "take", "drop", "_&&_", "&", "&mut", "<<", "rust/model", "ptr", "eq"}
 
@@ -189,19 +191,22 @@ def named_edits(cell):
             yield "" if edit_there(crate, name) else "there is no edit %s %s" % (crate, name)
 
 
+def named(cell, names, antt):
+    """What a cell of definitions, functions, laws or theorems names: a name that is declared nowhere, a file that is not there."""
+    for name in {n for q in re.findall(r"`([^`]+)`", cell) for n in re.split(r"::|[\s,.()]+", q) if n and not n.isdigit()}:
+        yield "" if name in names | LIBRARY else "%s is declared nowhere" % name
+    for name in re.findall(r"\b\w+\.antt\b", cell):
+        yield "" if name in antt else "there is no %s" % name
+
+
 def columns(at, head, body, names, antt):
     """What is wrong with the names, files and edits in the columns of a table."""
     for number, row in body:
-        yield "" if len(row) == len(head) else at % number + "%d columns under %d" % (len(row), len(head))
         cell = dict(zip(head, row))
-        for title in set(head) & {"definition", "function", "law", "theorem or contract"}:
-            for name in {n for q in re.findall(r"`([^`]+)`", cell.get(title, "")) for n in re.split(r"::|[\s,.()]+", q) if n and not n.isdigit()}:
-                yield "" if name in names | LIBRARY else at % number + "%s is declared nowhere" % name
-            for name in re.findall(r"\b\w+\.antt\b", cell.get(title, "")):
-                yield "" if name in antt else at % number + "there is no %s" % name
-        if cell.get("edit"):
-            for found in named_edits(cell["edit"]):
-                yield at % number + found if found else ""
+        found = ["" if len(row) == len(head) else "%d columns under %d" % (len(row), len(head))]
+        found += [one for title in NAMING if title in cell for one in named(cell[title], names, antt)]
+        found += named_edits(cell["edit"]) if cell.get("edit") else []
+        yield from (at % number + one if one else "" for one in found)
 
 
 def rows(at, section, alone, body):
