@@ -48,7 +48,7 @@ runs_agree() { # WORDS: the runs of the service that the oracle is asked for
 
 test_that "the stand-ins and the driver do what they say" rust/check-oracle.sh
 rust/run-oracle.sh interface sample >"$work/interface" && rust/run-oracle.sh records sample >>"$work/interface"
-test_that "the stored answers are those of the Rust and of document 01" cmp "$work/interface" crates/replay/stdin
+test_that "the stored answers are those of the Rust and of the reading of SHP-8 to SHP-10" cmp "$work/interface" crates/replay/stdin
 rust/run-oracle.sh interface full >"$work/full"
 test_that "every transition on the whole grid" none_differ replay "$work/full"
 rust/run-oracle.sh records full >"$work/full"

@@ -1,21 +1,25 @@
 #!/usr/bin/env python3
 """usage: promises.py [--write]
 
-Holds docs/PROMISES.md against the sources. Of a crate with a table of functions: each row's function is there and as public as the row says, each function
-has its row, the wrong answers that the row names are those of the edits that break the function, in their order and words, and what is counted above the table is
-what the table has. Every name in the columns of definitions, functions and laws is declared somewhere, and every file named is there. Every table has its head.
+Holds docs/PROMISES.md and docs/FUNCTIONS.md against the sources. Of a crate with a table of functions in docs/FUNCTIONS.md: each row's function is there and as
+public as the row says, each function has its row, the wrong answers that the row names are those of the edits that break the function, in their order and words, and
+what is counted above the table is what the table has. Of both: every name in the columns of definitions, functions, laws and theorems is declared somewhere, every
+file named there is there, every edit in a column of edits is there, and every table has its head.
 Of the edits: each line '# breaks: FUNCTION' names a function of the crate, the line after it says in words what the wrong answer is, and what is replaced for it follows; and what an edit replaces stands
 once in its file.
 Writes a line for what is wrong, and last 'N passed, M failed'; a row, a name, a count or an edit's function is one test.
-With --write the column of wrong answers is first written from the edits, if each says its own.
+With --write the column of wrong answers in docs/FUNCTIONS.md is first written from the edits, if each says its own.
 """
 import os
 import re
 import sys
 
 ROOT = os.path.dirname(os.path.dirname(os.path.abspath(__file__)))
-DOC = os.path.join(ROOT, "docs", "PROMISES.md")
+PROMISES = os.path.join(ROOT, "docs", "PROMISES.md")
+FUNCTIONS = os.path.join(ROOT, "docs", "FUNCTIONS.md")
 
+# The columns that name what is declared.
+NAMING = ("definition", "function", "law", "theorem or contract")
 # Names of the language and of its library, and words that are no name.
 LIBRARY = {"getD", "max", "cond", "take", "drop", "_&&_", "&", "&mut", "<<", "rust/model", "ptr", "eq"}
 
@@ -123,7 +127,7 @@ def of_functions(section, head):
 
 def write():
     """Writes the column of wrong answers."""
-    lines = text(DOC).split("\n")
+    lines = text(FUNCTIONS).split("\n")
     for section, alone, head, body in tables(lines):
         if of_functions(section, head):
             there, said = functions(section), answers(section)
@@ -132,7 +136,7 @@ def write():
                 if name in there:
                     parts = lines[number - 1].split("|")
                     lines[number - 1] = "|".join(parts[:3] + [" %s " % said.get(name, "")] + parts[4:])
-    with open(DOC, "w", encoding="utf-8") as f:
+    with open(FUNCTIONS, "w", encoding="utf-8") as f:
         f.write("\n".join(lines))
 
 
@@ -173,46 +177,88 @@ def replaced():
             yield found
 
 
+def edit_there(crate, name):
+    """Whether a crate has this edit, by its number or by its name."""
+    file = "wrong_%s.edit" % name if name.isdigit() else name + ".edit"
+    return any(os.path.exists(os.path.join(ROOT, folder, file)) for folder in (os.path.join("crates", crate, "must-fail"), os.path.join("tests", "edits", crate)))
+
+
+def named_edits(cell):
+    """The edits of a cell, 'CRATE EDIT, EDIT; CRATE EDIT': those that are not there."""
+    for group in cell.split("; "):
+        crate, _, names = group.partition(" ")
+        for name in names.split(", "):
+            yield "" if edit_there(crate, name) else "there is no edit %s %s" % (crate, name)
+
+
+def named(cell, names, antt):
+    """What a cell of definitions, functions, laws or theorems names: a name that is declared nowhere, a file that is not there."""
+    for name in {n for q in re.findall(r"`([^`]+)`", cell) for n in re.split(r"::|[\s,.()]+", q) if n and not n.isdigit()}:
+        yield "" if name in names | LIBRARY else "%s is declared nowhere" % name
+    for name in re.findall(r"\b\w+\.antt\b", cell):
+        yield "" if name in antt else "there is no %s" % name
+
+
+def columns(at, head, body, names, antt):
+    """What is wrong with the names, files and edits in the columns of a table."""
+    for number, row in body:
+        cell = dict(zip(head, row))
+        found = ["" if len(row) == len(head) else "%d columns under %d" % (len(row), len(head))]
+        found += [one for title in NAMING if title in cell for one in named(cell[title], names, antt)]
+        found += named_edits(cell["edit"]) if cell.get("edit") else []
+        yield from (at % number + one if one else "" for one in found)
+
+
+def rows(at, section, alone, body):
+    """Of each row of a table of functions its function, the row, and what is wrong with it."""
+    there, said = functions(section), answers(section)
+    for number, row in body:
+        name, public = function(alone, row[0], there)
+        if name not in there:
+            yield None, row, [at % number + "there is no function %s in %s" % (row[0], section)]
+            continue
+        found = ["" if there[name] == public else at % number + "%s is %s" % (name, there[name] or "public")]
+        found.append("" if row[2] == said.get(name, "") else at % number + "the wrong answers of %s are, by the edits: %s" % (name, said.get(name, "none")))
+        yield name, row, found
+
+
+def counts(section, found):
+    """Of the functions of a crate: those without a row, and counts that are not those of the table."""
+    for name in sorted(set(functions(section)) - {name for name, _ in found}):
+        yield "%s: %s has no row" % (section, name)
+    body = text(FUNCTIONS).split("\n## %s\n" % section)[1].split("\n## ")[0]
+    wrongs = sum(len(re.findall(r"\(\d\)", row[2])) for _, row in found)
+    for word, count in (("functions", len(found)), ("wrong answers", wrongs)):
+        for said in re.findall(r"\b(\d+)\s+%s" % word.replace(" ", r"\s+"), body):
+            yield "" if int(said) == count else "%s: %s %s are said, %d are in the table" % (section, said, word, count)
+
+
+def document(doc, names, antt, by_crate):
+    """What is wrong in a document; its rows of functions are added to those of their crate."""
+    at = os.path.relpath(doc, ROOT) + ":%d: "
+    for section, alone, head, body in tables(text(doc).split("\n")):
+        if not head:
+            yield at % body[0][0] + "rows without a head"
+            continue
+        yield from columns(at, head, body, names, antt)
+        if doc == FUNCTIONS and of_functions(section, head):
+            for name, row, found in rows(at, section, alone, body):
+                yield from found
+                if name:
+                    by_crate.setdefault(section, []).append((name, row))
+
+
 def wrong():
     """What each test finds: a line, or nothing."""
     yield from edits()
     yield from replaced()
-    lines = text(DOC).split("\n")
     names = declared()
     antt = {os.path.basename(path) for path in files("crates", ".antt")}
-    rows = {}
-    for section, alone, head, body in tables(lines):
-        if not head:
-            yield "line %d: rows without a head" % body[0][0]
-            continue
-        for number, row in body:
-            yield "" if len(row) == len(head) else "line %d: %d columns under %d" % (number, len(row), len(head))
-        for k, title in enumerate(head):
-            if title in ("definition", "function", "law", "theorem or contract", "rendered by", "proved by"):
-                for number, row in body:
-                    cell = row[k] if k < len(row) else ""
-                    for name in {n for q in re.findall(r"`([^`]+)`", cell) for n in re.split(r"::|[\s,.()]+", q) if n and not n.isdigit()}:
-                        yield "" if name in names | LIBRARY else "line %d: %s is declared nowhere" % (number, name)
-                    for name in re.findall(r"\b\w+\.antt\b", cell):
-                        yield "" if name in antt else "line %d: there is no %s" % (number, name)
-        if of_functions(section, head):
-            there, said = functions(section), answers(section)
-            for number, row in body:
-                name, public = function(alone, row[0], there)
-                if name not in there:
-                    yield "line %d: there is no function %s in %s" % (number, row[0], section)
-                    continue
-                rows.setdefault(section, []).append((name, row))
-                yield "" if there[name] == public else "line %d: %s is %s" % (number, name, there[name] or "public")
-                yield "" if row[2] == said.get(name, "") else "line %d: the wrong answers of %s are, by the edits: %s" % (number, name, said.get(name, "none"))
-    for section, found in rows.items():
-        for name in sorted(set(functions(section)) - {name for name, _ in found}):
-            yield "%s: %s has no row" % (section, name)
-        body = text(DOC).split("\n## %s\n" % section)[1].split("\n## ")[0]
-        wrongs = sum(len(re.findall(r"\(\d\)", row[2])) for _, row in found)
-        for word, count in (("functions", len(found)), ("wrong answers", wrongs)):
-            for said in re.findall(r"\b(\d+) %s" % word, body):
-                yield "" if int(said) == count else "%s: %s %s are said, %d are in the table" % (section, said, word, count)
+    by_crate = {}
+    for doc in (PROMISES, FUNCTIONS):
+        yield from document(doc, names, antt, by_crate)
+    for section, found in by_crate.items():
+        yield from counts(section, found)
 
 
 def main():

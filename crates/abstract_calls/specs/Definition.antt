@@ -44,13 +44,13 @@ callsOf p (c ∷ l) = callOf p c ++ callsOf (policies p (callOf p c)) l
 abbrev pub defined : Registration → List ByteCall → Policy
 defined g l = policies (started g) (callsOf (started g) l)
 
--- what is held when event n closes (0: the start)
+-- LNK-5: what is held when event n closes (0: the start)
 abbrev pub held : Registration → List ByteCall → ℕ → Display
 held g l n = heldAt (started g) (callsOf (started g) l) n
 
 -- likewise of the desk
 
--- document 01's follower after these calls
+-- the abstract follower after these calls
 abbrev pub followed : List DeskCall → Follower
 followed l = paperAfter (packetsOf l)
 
@@ -73,11 +73,11 @@ abbrev pub OrderFitsAt : Stand → Type 0
 OrderFitsAt between = Unit {0}
 OrderFitsAt (at n o k) = OrderFits o
 
--- of a start: 20, and 21 for bytes of another length than an image's
+-- of a start: REF-20, and REF-21 for bytes of another length than an image's
 abbrev pub startConditions : List ℕ → OptionConfig → ℕ → ℕ → List (Bool × ℕ)
 startConditions image config ports chargers = startRefusals config ports chargers ++ ((not (eqb (length image) serviceLength), 21) ∷ [])
 
--- the first that applies is returned, and a call that meets none is not turned back (its low byte is not 0)
+-- DEM-1b: the first that applies is returned, and a call that meets none is not turned back (its low byte is not 0)
 pub record Refuses (l : List (Bool × ℕ)) (number : ℕ) : Type 0 where
   pub first : First l (firstRefused l)
   pub turned-back : (firstRefused l ≡ 0 → ⊥) → number ≡ refusedNumber (firstRefused l)

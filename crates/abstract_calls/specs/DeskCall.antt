@@ -1,4 +1,4 @@
--- Each call on a follower's image, as one record: what it is of any functions, and what document 01's follower says of it.
+-- Each call on a follower's image, as one record: what it is of any functions, and what the abstract follower says of it.
 use Prim.Native.Nat.{ℕ}
 use mathlib.Core.Bool.{Bool, false}
 use mathlib.Core.List.{List, [], _∷_}
@@ -27,7 +27,7 @@ pub record FollowerCall : Type 0 where
 
 -- a take
 
--- the reader has met this first, from the left
+-- REF-3: the reader has met this first, from the left
 abbrev pub metFirst : ℕ → ReadPacket → Bool
 metFirst n (ReadPacket.Refused m) = eqb m n
 metFirst n (ReadPacket.Packet p) = false

@@ -1,5 +1,5 @@
--- The exported functions, of any program: from the numbers and bytes that each is lent, the number that it returns and the bytes that it leaves in
--- the slice that it may write. A slice that it may only read stays, by its type.
+-- The exported functions (FRM-5), of any program: from the numbers and bytes that each is lent, the number that it returns and the bytes that it
+-- leaves in the slice that it may write. A slice that it may only read stays, by its type.
 use Prim.Native.Nat.{ℕ}
 use mathlib.Core.List.{List}
 use Rattle.power_policy_service.specs.Config.{configFrom}

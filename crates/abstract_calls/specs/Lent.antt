@@ -25,7 +25,7 @@ rowsOf p c = record { ok = p .ok && c .ok; records = record { psus = p .psus; ch
 abbrev pub rowsIn : Registration → List ℕ → List ℕ → Rows
 rowsIn g psus chargers = rowsOf (psuRow (g .ports) psus) (chargerRow (g .chargers) chargers)
 
--- a packet or picture in a buffer: 29 for one under 64 bytes; bytes past what is written stay
+-- a packet or picture in a buffer: REF-29 for one under 64 bytes; bytes past what is written stay
 
 abbrev pub writtenAs : Written → ℕ
 writtenAs (Written.Refused n) = refusedNumber n

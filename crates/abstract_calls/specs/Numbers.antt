@@ -1,4 +1,5 @@
--- The 64-bit number that a C function returns (docs/STATE.md): its low byte says what happened, the other bytes what belongs to it.
+-- FRM-10: the 64-bit number that a C function returns (docs/STATE.md):
+-- its low byte says what happened, the other bytes what belongs to it.
 use Prim.Native.Nat.{ℕ, _+_, _*_, _/_, _%_}
 use Rattle.power_policy_interface.specs.Capability.{bit, consumerFlagsByte, providerFlagsByte}
 use Rattle.power_policy_interface.specs.Psu.{errorByte, mismatchOf, expectedByte, actualByte}
@@ -19,7 +20,7 @@ packed what a b c d e = what + 256 * a + 65536 * b + 16777216 * c + 4294967296 *
 abbrev pub refusedNumber : ℕ → ℕ
 refusedNumber n = packed 0 n 0 0 0 0
 
--- the milliseconds of a wait
+-- EVT-6: the milliseconds of a wait
 abbrev pub waitMs : ℕ
 waitMs = 800
 
@@ -41,7 +42,7 @@ orderNumber (Order.Attach i c) = capabilityOrder 5 i (consumerFlagsByte (c .flag
 orderNumber (Order.Detach i) = bareOrder 6 i
 orderNumber Order.Wait = packed 1 7 0 0 waitMs 0
 
--- a close: the answer byte, the states of a ported transition's InvalidState, and how many orders the event has given
+-- FRM-3, a close: the answer byte, the states of a ported transition's InvalidState, and how many orders the event has given
 
 abbrev pub closedNumber : Result → ℕ → ℕ
 closedNumber Result.Ok orders = packed 2 0 0 0 orders 0

@@ -34,7 +34,7 @@ pub record ServiceCall : Type 0 where
 
 -- events and answers
 
--- 22: records of wrong length or with a field out of range
+-- REF-22: records of wrong length or with a field out of range
 abbrev pub wrongRows : Registration → List ℕ → List ℕ → Bool × ℕ
 wrongRows g psus chargers = (not (rowsIn g psus chargers .ok), 22)
 
@@ -93,7 +93,7 @@ orderReading = record {
 
 -- packets and pictures
 
--- 29: buffer under 64 bytes
+-- REF-29: buffer under 64 bytes
 abbrev pub short : List ℕ → List (Bool × ℕ)
 short buffer = (ltb (length buffer) bufferLength, 29) ∷ []
 

@@ -1,4 +1,4 @@
--- The follower at the edges of document 01, computed: what it says after each take.
+-- The follower at its edges, computed: what it says after each take.
 use Prim.Native.Nat.{ℕ}
 use mathlib.Core.List.{List, [], _∷_}
 use mathlib.Core.Option.{Option, none, some}
@@ -8,7 +8,7 @@ use Rattle.wire.specs.Read.{readPacket}
 use Rattle.abstract_desk.specs.Follower.{Follower, lost, showing, fresh, state}
 use Rattle.abstract_desk.specs.Takes.{readBy}
 
--- the packets of document 01's example
+-- the packets of the example (PRG-7)
 
 abbrev pub picture0 : List ℕ
 picture0 = 0x02 ∷ 0x00 ∷ 0x00 ∷ 0x00 ∷ 0x00 ∷ 0x00 ∷ []
@@ -32,7 +32,7 @@ saidAfter f [] = []
 saidAfter f (b ∷ l) = said (readBy f (readPacket b)) ∷ saidAfter (readBy f (readPacket b)) l
 
 pub record DeskEdges : Type 0 where
-  -- P12's five takes
+  -- EDG-12: P12's five takes
   pub five-takes :
       saidAfter fresh (picture0 ∷ event2 ∷ event1 ∷ event1 ∷ event3 ∷ [])
       ≡ (State.Level, some 0) ∷ (State.Waiting, some 0) ∷ (State.Level, some 2) ∷ (State.Level, some 2) ∷ (State.Lost, none) ∷ []

@@ -1,4 +1,4 @@
--- Takes of the follower on bytes: those that are turned back change nothing.
+-- Takes of the follower on bytes: those that are turned back change nothing (REF-1).
 use Prim.Native.Nat.{ℕ}
 use mathlib.Core.List.{List, [], _∷_}
 use Rattle.interface_records.specs.Row.{AllBytes}

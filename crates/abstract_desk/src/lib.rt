@@ -1,1 +1,1 @@
-// The follower as document 01 says it: specs/Follower.antt; takes of bytes: Takes.antt; its edges computed: Edges.antt. No code.
+// The abstract follower (FOL): specs/Follower.antt; takes of bytes: Takes.antt; its edges computed: Edges.antt. No code.

@@ -1,5 +1,5 @@
 -- While an event is open no other is accepted, and what is left of it ends with the consumer that it chose (Chooses.antt); once it has
--- closed, what is held stays until the next close; and that choice is demand 2's (power_policy_service Choice.antt).
+-- closed, what is held stays until the next close; and that choice is DEM-2c's (power_policy_service Choice.antt).
 use mathlib.Core.Path.{_≡_, refl, sym, ap, _∙_, subst}
 use mathlib.Core.Bool.{Bool, true, false, cond, _||_, true≢false}
 use mathlib.Core.List.{List, [], _∷_, _++_}

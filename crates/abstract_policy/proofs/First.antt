@@ -64,7 +64,7 @@ first-from k (r ∷ l) a = go (r .0) refl (first-from (rank (r .1)) l (both-righ
 pub first : (l : List (Bool × ℕ)) → Ascending l → First l (firstRefused l)
 first l a = first-from 0 l a
 
--- among document 01's numbers the order is that of size
+-- REF-2: among the base's numbers the order is that of size
 
 -- the numbers from a on
 abbrev From : ℕ → List ℕ → Type 0
@@ -93,7 +93,7 @@ rank-size n m b c =
     let q : rank m + 20 ≡ m + 1 = base-rank m c in
     (λ h. omega (arith, p, q, h), λ h. omega (arith, p, q, h))
 
--- where all that apply are document 01's, the first is the lowest
+-- where all that apply are the base's, the first is the lowest
 pub base-lowest : (l : List (Bool × ℕ)) (n : ℕ) → ((m : ℕ) → Applies m l → Base m) → First l n → Lowest l n
 base-lowest l n all f = record { applies = f .applies; least = λ m h. go (eqb n 0) refl m h; none = f .none }
   where

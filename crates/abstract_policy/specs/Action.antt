@@ -1,5 +1,5 @@
--- An event as an interaction: it closes, or asks for a device order, and a reply brings the device's answer and the present records.
--- Actions are what the Rust's async functions become: an await on a device is an order, `?` ends the event.
+-- EVT-4: an event as an interaction: it closes, or asks for a device order, and a reply brings the device's answer and the present
+-- records. SHP-2: actions are what the Rust's async functions become: an await on a device is an order, `?` ends the event.
 use Prim.Native.Nat.{ℕ, zero, suc}
 use mathlib.Core.Bool.{Bool, true, false}
 use mathlib.Core.List.{List, [], _∷_, _++_}
@@ -33,7 +33,7 @@ _>>_ m n h r k = m h r (λ a h′ r′. n h′ r′ k)
 abbrev pub skip : Action (Unit {0})
 skip h r k = k tt h r
 
--- an error ends the event where it arises; earlier changes and notices remain
+-- UPD-14: an error ends the event where it arises; earlier changes and notices remain
 abbrev pub fail : Error → Action (Unit {0})
 fail e h r k = done (Result.Err e) h
 

@@ -1,4 +1,4 @@
--- Demand 2's sentence on the chosen consumer, over whole runs of the definition: which consumer an event chooses that updates it, and that this one
+-- DEM-2c, over whole runs of the definition: which consumer an event chooses that updates it, and that this one
 -- is held when the event has closed without error. It holds after every start that is accepted (`run-chooses` in proofs/Chosen.antt).
 use Prim.Native.Nat.{ℕ, suc}
 use mathlib.Core.Bool.{Bool, true, _||_}

@@ -1,4 +1,4 @@
--- What an event does at the edges of document 01 and where a mistake would look like a repair, computed. Records come as a call brings them.
+-- What an event does at the edges (EDG) and where a mistake would look like a repair (MIS), computed. Records come as a call brings them.
 use Prim.Native.Nat.{ℕ, _-_}
 use mathlib.Core.Bool.{Bool, true, false}
 use mathlib.Core.List.{List, [], _∷_, _++_}
@@ -109,13 +109,13 @@ left =
     event (record { config = rustDefault; ports = 1; chargers = 1 }) 0 EventData.Detached (consuming (unlimited 5000 3000) true 1) leaving
 
 pub record EventEdges : Type 0 where
-  -- P6: a lone request 15,000 mV, 1,000 mA is granted 5,000 mV, 3,000 mA
+  -- EDG-6 (P6): a lone request 15,000 mV, 1,000 mA is granted 5,000 mV, 3,000 mA
   pub P6 : brings 0 (opened 1 0 EventData.RequestedProviderCapability freshState (requesting (contract 15000 1000) ∷ []))
       ≡ Step.Order (Order.ConnectProvider 0 (contract 5000 3000))
-  -- P7: request 5,000 mV, 500 mA beside a contract of 15,000 mW: granted 5,000 mV, 1,500 mA
+  -- EDG-7 (P7), MIS-3: request 5,000 mV, 500 mA beside a contract of 15,000 mW: granted 5,000 mV, 1,500 mA
   pub P7 : brings 0 (opened 2 0 EventData.RequestedProviderCapability freshState (requesting (contract 5000 500) ∷ providing (contract 5000 3000) ∷ []))
       ≡ Step.Order (Order.ConnectProvider 0 (contract 5000 1500))
-  -- P10: fifth provider (0 to 3 are tracked): notice, not tracked, no notice on removal
+  -- EDG-10 (P10): fifth provider (0 to 3 are tracked): notice, not tracked, no notice on removal
   pub P10-connected :
       fedBy (opened 5 4 EventData.RequestedProviderCapability (tracking 15 PowerState.Unlimited) (nothing ∷ nothing ∷ nothing ∷ nothing ∷ requesting (contract 5000 500) ∷ []))
       ((0, rows []) ∷ [])
@@ -126,12 +126,12 @@ pub record EventEdges : Type 0 where
   pub P10-disconnected : (e : PowerState) (f : DisconnectFlags)
       → opened 5 4 (EventData.Disconnected f) (tracking 15 e) (nothing ∷ nothing ∷ nothing ∷ nothing ∷ nothing ∷ [])
       ≡ done Result.Ok (record { state = tracking 15 e; notices = [] })
-  -- An unchanged consumer that went Idle is not connected again: no order, no notice
+  -- MIS-2: an unchanged consumer that went Idle is not connected again: no order, no notice
   pub unchanged-idle :
       opened 1 0 EventData.UpdatedConsumerCapability (consuming (offer 5000 3000) false 0) (offering (offer 5000 3000) ∷ [])
       ≡ done Result.Ok (record { state = consuming (offer 5000 3000) false 0; notices = [] })
-  -- After an error the unconstrained figures stay as they were, and there is no notice of them: port 0 cannot be connected anew (answer 7), and offers
-  -- unconstrained power no more
+  -- MIS-4: after an error the unconstrained figures stay as they were, and there is no notice
+  -- of them: port 0 cannot be connected anew (answer 7), and offers unconstrained power no more
   pub error-leaves-figures :
       fedBy (opened 1 0 EventData.UpdatedConsumerCapability (consuming (unlimited 5000 3000) true 1) (offering (offer 5000 1500) ∷ []))
       ((7, rows []) ∷ [])
@@ -141,7 +141,7 @@ pub record EventEdges : Type 0 where
         notices =
             Event.ConsumerDisconnected 0 (record { reason = OptionDisconnectReason.Some DisconnectReason.AutoRenegotiation }) ∷ [];
       })
-  -- A consumer that nothing replaces: its chargers are detached, its PSU gets no order, and each change is told once
+  -- UPD-4, UPD-5: a consumer that nothing replaces: its chargers are detached, its PSU gets no order, and each change is told once
   pub left-orders : ordersBy left ((0, leaving) ∷ []) ≡ Order.Detach 0 ∷ []
   pub left-alone :
       fedBy left ((0, leaving) ∷ [])

@@ -11,7 +11,7 @@ use Rattle.abstract_policy.specs.Action.{Held, Interaction, done, ask}
 use Rattle.abstract_policy.specs.State.{displayOf}
 use Rattle.abstract_policy.specs.declared.state.Records.{Records}
 
--- whatever is answered, an event closes after at most n orders
+-- DEM-1a: whatever is answered, an event closes after at most n orders
 abbrev pub AtMost : ℕ → Interaction → Type 0
 AtMost n (done a h) = Unit {0}
 AtMost zero (ask o k) = ⊥

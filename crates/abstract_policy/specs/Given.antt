@@ -15,11 +15,11 @@ abbrev pub flagsIn : OptionDisconnectFlags → DisconnectFlags
 flagsIn OptionDisconnectFlags.None = noReason
 flagsIn (OptionDisconnectFlags.Some f) = f
 
--- 0 none, 1 Detached, then as written, to 6 Reset; above 6 has been refused
+-- PKT-10: 0 none, 1 Detached, then as written, to 6 Reset; above 6 has been refused
 abbrev pub flagsOf : ℕ → DisconnectFlags
 flagsOf detail = flagsIn (disconnectFrom detail)
 
--- 0 to 4 as psu/event.rs writes them
+-- REF-24: 0 to 4 as psu/event.rs writes them; EVT-14: they carry no capability
 abbrev pub events : ℕ → List EventData
 events detail =
     EventData.Attached
@@ -37,6 +37,6 @@ abbrev pub resultIn : OptionResult → Result
 resultIn OptionResult.None = Result.Ok
 resultIn (OptionResult.Some a) = a
 
--- 0 done, 1 to 10 the error; above 10 has been refused
+-- PKT-3: 0 done, 1 to 10 the error; above 10 has been refused
 abbrev pub resultOf : ℕ → Result
 resultOf a = resultIn (answerFrom a)

@@ -1,4 +1,4 @@
--- The event, transcribed from consumer.rs, provider.rs and service/mod.rs, to be laid beside them. The names are theirs; a part of one of their
+-- The event (DEM-2b), transcribed from consumer.rs, provider.rs and service/mod.rs, to be laid beside them. The names are theirs; a part of one of their
 -- functions that has a name of its own here (attachCharger, detachCharger, disconnectCurrent, connectConsumer, connectBest, provide, removeProvider, and what
 -- is computed or tested: unconstrainedOf, isConnectedConsumer, sameAvailable, reasonOf) stands just before the function.
 use Prim.Native.Nat.{ℕ, zero, suc, min}
@@ -34,7 +34,7 @@ use Rattle.abstract_policy.specs.declared.state.Records.{Records}
 use Rattle.abstract_policy.specs.declared.state.Registration.{Registration}
 use Rattle.abstract_policy.specs.declared.order.Order.{Order}
 
--- consumer.rs
+-- consumer.rs: UPD
 
 abbrev pub unconstrainedFlag : OptionConsumerPowerCapability → Bool
 unconstrainedFlag OptionConsumerPowerCapability.None = false
@@ -47,7 +47,7 @@ abbrev pub counted : Bool → ℕ → ℕ
 counted true n = suc n
 counted false n = n
 
--- ports whose consumer capability has unconstrained_power, under the minimum or not
+-- UPD-12: ports whose consumer capability has unconstrained_power, under the minimum or not
 abbrev pub availableOf : Records → ℕ → ℕ
 availableOf r zero = 0
 availableOf r (suc n) = counted (offersUnconstrained (psuOf r n)) (availableOf r n)
@@ -59,6 +59,7 @@ consumerFlag (OptionAvailableConsumer.Some c) = c .«consumer_power_capability»
 abbrev pub unconstrainedOf : Registration → InternalState → Records → UnconstrainedState
 unconstrainedOf g s r = record { unconstrained = consumerFlag (s .«current_consumer_state»); available = availableOf r (g .ports) }
 
+-- UPD-13: told where one of the two figures differs
 unfoldable pub updateUnconstrainedState : Registration → Action (Unit {0})
 updateUnconstrainedState g = do
   s ← state
@@ -67,7 +68,7 @@ updateUnconstrainedState g = do
     set (withUnconstrained (unconstrainedOf g s r))
     notify (Event.Unconstrained (unconstrainedOf g s r)))
 
--- the body of the loop over the chargers
+-- UPD-10: the body of the loop over the chargers
 unfoldable pub attachCharger : AvailableConsumer → ℕ → Action (Unit {0})
 attachCharger new i = do
   r ← records
@@ -76,7 +77,7 @@ attachCharger new i = do
     charger (Order.InitCharger i))
   charger (Order.Attach i (new .«consumer_power_capability»))
 
--- a wait does not fail
+-- UPD-9 to UPD-11; a wait does not fail (EVT-7)
 unfoldable pub postConsumerConnected : Registration → AvailableConsumer → Action (Unit {0})
 postConsumerConnected g new = do
   set (withConsumer (OptionAvailableConsumer.Some new))
@@ -105,14 +106,14 @@ abbrev pub orSwitching : OptionDisconnectReason → DisconnectReason
 orSwitching OptionDisconnectReason.None = DisconnectReason.Switching
 orSwitching (OptionDisconnectReason.Some r) = r
 
--- AutoRenegotiation if the port is the same, else the event's reason, else Switching
+-- UPD-8: AutoRenegotiation if the port is the same, else the event's reason, else Switching
 abbrev pub reasonOf : ℕ → AvailableConsumer → DisconnectFlags → DisconnectFlags
 reasonOf old new f =
     record {
       reason = OptionDisconnectReason.Some (cond (eqb old (new .psu)) DisconnectReason.AutoRenegotiation (orSwitching (f .reason)));
     }
 
--- connect_new_consumer, and before it its two parts: the current consumer gives way; the new one is connected
+-- connect_new_consumer (UPD-6), and before it its two parts: the current consumer gives way (UPD-7); the new one is connected (UPD-9)
 
 unfoldable pub disconnectCurrent : Registration → AvailableConsumer → AvailableConsumer → DisconnectFlags → Action (Unit {0})
 disconnectCurrent g current new flags = do
@@ -137,7 +138,7 @@ connectNewConsumer g (OptionAvailableConsumer.Some current) new flags =
       disconnectCurrent g current new flags
       connectConsumer g new)
 
--- the best consumer, and the current one
+-- UPD-4, UPD-5: the best consumer, and the current one
 unfoldable pub connectBest :
     Registration → OptionAvailableConsumer → OptionAvailableConsumer → DisconnectFlags → Action (Unit {0})
 connectBest g (OptionAvailableConsumer.Some best) current flags = connectNewConsumer g current best flags
@@ -158,14 +159,16 @@ updateCurrentConsumer g flags = do
   connectBest g (findBestConsumer g s r) (s .«current_consumer_state») flags
   updateUnconstrainedState g
 
--- provider.rs
+-- provider.rs: PRV
 
+-- PRV-7: tracked if there or fewer than four are; PRV-8: told anyway
 unfoldable pub postProviderConnected : ℕ → ProviderPowerCapability → Action (Unit {0})
 postProviderConnected requester target = do
   s ← state
   set (withProviders (insertOf (s .«connected_providers») requester .providers))
   notify (Event.ProviderConnected requester target)
 
+-- PRV-1: no request, no error. PRV-2 to PRV-6: else the power state is set, and what it grants is ordered
 unfoldable pub provide : Registration → ℕ → OptionProviderPowerCapability → Action (Unit {0})
 provide g requester OptionProviderPowerCapability.None = skip
 provide g requester (OptionProviderPowerCapability.Some requested) = do
@@ -182,6 +185,7 @@ connectProvider g requester = do
   r ← records
   provide g requester (psuOf r requester .«requested_provider_capability»)
 
+-- EVT-9: the power state by what is left, and the notice; EVT-10: nothing for a port that was not tracked
 unfoldable pub removeProvider : Registration → ℕ → Removed → Action (Unit {0})
 removeProvider g port removed =
     when (removed .found) (do
@@ -190,12 +194,13 @@ removeProvider g port removed =
       set (withPowerState (powerStateOf (g .config) (totalOf (r .psus) (min maxPorts (g .ports)))))
       notify (Event.ProviderDisconnected port))
 
+-- EVT-8: the port is taken out of the tracked providers
 unfoldable pub postProviderRemoved : Registration → ℕ → Action (Unit {0})
 postProviderRemoved g port = do
   s ← state
   removeProvider g port (removeOf (s .«connected_providers») port)
 
--- service/mod.rs
+-- service/mod.rs: EVT
 
 abbrev pub noReason : DisconnectFlags
 noReason = record { reason = OptionDisconnectReason.None }
@@ -203,6 +208,7 @@ noReason = record { reason = OptionDisconnectReason.None }
 abbrev pub detachedReason : DisconnectFlags
 detachedReason = record { reason = OptionDisconnectReason.Some DisconnectReason.Detached }
 
+-- EVT-11 to EVT-16: what each kind of event does
 unfoldable pub processPsuEvent : Registration → ℕ → EventData → Action (Unit {0})
 processPsuEvent g device EventData.Attached = skip
 processPsuEvent g device EventData.UpdatedConsumerCapability = updateCurrentConsumer g noReason
@@ -218,6 +224,6 @@ processPsuEvent g device EventData.Detached = do
 abbrev pub close : Unit {0} → Held → Records → Interaction
 close u h r = done Result.Ok h
 
--- an event opened with this state and these records; no notice yet
+-- EVT-3: an event opened with this state and these records; no notice yet
 abbrev pub event : Registration → ℕ → EventData → InternalState → Records → Interaction
 event g device e s r = processPsuEvent g device e (record { state = s; notices = [] }) r close

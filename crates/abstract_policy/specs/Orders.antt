@@ -1,4 +1,5 @@
--- The orders of an event in a run, in their order: those that the definition gives from its opening on, whatever calls are turned back or write in between.
+-- PKT-9: the orders of an event in a run, in their order: those that the definition
+-- gives from its opening on, whatever calls are turned back or write in between.
 use Prim.Native.Nat.{ℕ}
 use mathlib.Core.List.{List, [], _∷_}
 use mathlib.Core.Path.{_≡_}

@@ -1,4 +1,4 @@
--- A run as the event's definition has it, without the machine: fed with the start and the calls that no numbered condition turns back.
+-- EVT-1: a run as the event's definition has it, without the machine: fed with the start and the calls that no numbered condition turns back.
 use Prim.Native.Nat.{ℕ, suc}
 use mathlib.Core.Bool.{Bool, true, false, cond}
 use mathlib.Core.List.{List, [], _∷_, _++_}
@@ -24,7 +24,7 @@ pub data Stand : Type 0 where
 
 pub record Policy : Type 0 where
   pub registration : Registration
-  -- the number of the event closed last
+  -- PKT-1: the number of the event closed last
   pub number : ℕ
   -- what was held when it closed
   pub state : InternalState
@@ -60,7 +60,7 @@ abbrev pub openRefused : Policy → ℕ → ℕ → ℕ → ℕ
 openRefused p kind device detail =
     firstRefused (openConditions (p .registration .ports) (p .registration .chargers) (isAt (p .stand)) (p .number) kind device detail)
 
--- kind 5, a charger's event, changes nothing
+-- EVT-17: kind 5, a charger's event, changes nothing
 abbrev pub opens : Policy → ℕ → ℕ → ℕ → Records → Policy
 opens p kind device detail r =
     cond (eqb (openRefused p kind device detail) 0)
@@ -123,7 +123,7 @@ abbrev pub policies : Policy → List Call → Policy
 policies p [] = p
 policies p (c ∷ l) = policies (policyAfter p c) l
 
--- what was held when event n closed (0: the start); for an n that has not closed in these calls, what is held last
+-- LNK-5: what was held when event n closed (0: the start); for an n that has not closed in these calls, what is held last
 abbrev pub heldAt : Policy → List Call → ℕ → Display
 heldAt p [] n = displayOf (p .state)
 heldAt p (c ∷ l) n = cond (eqb n (p .number)) (displayOf (p .state)) (heldAt (policyAfter p c) l n)

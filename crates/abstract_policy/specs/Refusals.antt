@@ -1,5 +1,5 @@
--- What turns a call back: a list of conditions with their numbers for each call, in the order in which they are looked at. The first that holds gives the
--- number.
+-- DEM-1b: what turns a call back: a list of conditions with their numbers for each call,
+-- in the order in which they are looked at. The first that holds gives the number.
 use Prim.Native.Nat.{ℕ, suc, _≤_}
 use mathlib.Core.Bool.{Bool, true, false, cond, not, _&&_, _||_}
 use mathlib.Core.List.{List, [], _∷_}
@@ -16,7 +16,7 @@ abbrev pub firstRefused : List (Bool × ℕ) → ℕ
 firstRefused [] = 0
 firstRefused (r ∷ rest) = cond (r .0) (r .1) (firstRefused rest)
 
--- The numbers in the order in which they are looked at, whichever the call. Of 30 to 33 a packet meets one, the first from the left.
+-- The numbers in the order in which they are looked at, whichever the call. Of 30 to 33 a packet meets one, the first from the left (REF-3).
 abbrev pub order : List ℕ
 order = 20 ∷ 21 ∷ 22 ∷ 23 ∷ 24 ∷ 25 ∷ 26 ∷ 27 ∷ 28 ∷ 29 ∷ 30 ∷ 31 ∷ 32 ∷ 33 ∷ []
 
@@ -50,7 +50,7 @@ pub record First (l : List (Bool × ℕ)) (n : ℕ) : Type 0 where
   pub none : n ≡ 0 → (m : ℕ) → Applies m l → ⊥
   pub no-other : ((m : ℕ) → Applies m l → ⊥) → n ≡ 0
 
--- document 01's numbers; among them the order is that of size, so that the first is the lowest applicable (proofs/First.antt)
+-- REF-2: the base's numbers; among them the order is that of size, so that the first is the lowest applicable (proofs/First.antt)
 pub record Base (n : ℕ) : Type 0 where
   pub least : 20 ≤ n
   pub most : n ≤ 33
@@ -67,7 +67,7 @@ abbrev pub overType : OptionConfig → Bool
 overType OptionConfig.None = true
 overType (OptionConfig.Some c) = false
 
--- over 16 ports or 8 chargers, or no configuration
+-- REF-20: over 16 ports or 8 chargers, or no configuration
 abbrev pub overRegistered : OptionConfig → ℕ → ℕ → Bool
 overRegistered config ports chargers = ltb maxPorts ports || (ltb maxChargers chargers || overType config)
 
@@ -76,11 +76,11 @@ startRefusals config ports chargers = (overRegistered config ports chargers, 20)
 
 -- open
 
--- port or charger not registered: kind 5 names a charger, every other kind, an unknown one too, a port
+-- REF-23: port or charger not registered: kind 5 names a charger, every other kind, an unknown one too, a port
 abbrev pub notRegistered : ℕ → ℕ → ℕ → ℕ → Bool
 notRegistered ports chargers kind device = cond (eqb kind 5) (leb chargers device) (leb ports device)
 
--- event kind not 0 to 5, reason (kind 3) above 6, charger's PSU state (kind 5) above 1
+-- REF-24: event kind not 0 to 5, reason (kind 3) above 6, charger's PSU state (kind 5) above 1
 abbrev pub unknownEvent : ℕ → ℕ → Bool
 unknownEvent kind detail = ltb 5 kind || cond (eqb kind 3) (ltb 6 detail) (eqb kind 5 && ltb 1 detail)
 
@@ -89,11 +89,11 @@ abbrev pub waiting : OptionOrder → Bool
 waiting OptionOrder.None = false
 waiting (OptionOrder.Some o) = true
 
--- PSU event after number 4,294,967,295; a charger's has no number
+-- REF-28: PSU event after number 4,294,967,295; a charger's has no number
 abbrev pub numbersUsed : ℕ → ℕ → Bool
 numbersUsed kind number = not (eqb kind 5) && eqb number largest
 
--- 25: an event is open
+-- REF-25: an event is open
 abbrev pub openConditions : ℕ → ℕ → Bool → ℕ → ℕ → ℕ → ℕ → List (Bool × ℕ)
 openConditions ports chargers waits number kind device detail =
     (notRegistered ports chargers kind device, 23)
@@ -119,11 +119,11 @@ abbrev pub otherErrorIn : OptionOrder → ℕ → Bool
 otherErrorIn OptionOrder.None a = false
 otherErrorIn (OptionOrder.Some o) a = otherError o a
 
--- answer above 10; a failed wait; a charger order failed other than by 9
+-- REF-24: answer above 10; a failed wait (EVT-7); a charger order failed other than by 9
 abbrev pub unknownAnswer : OptionOrder → ℕ → Bool
 unknownAnswer o a = ltb 10 a || (not (eqb a 0) && otherErrorIn o a)
 
--- 26: answer with no order open
+-- REF-26: answer with no order open
 abbrev pub answerConditions : OptionOrder → ℕ → List (Bool × ℕ)
 answerConditions o a = (unknownAnswer o a, 24) ∷ (not (waiting o), 26) ∷ []
 
@@ -131,7 +131,7 @@ answerConditions o a = (unknownAnswer o a, 24) ∷ (not (waiting o), 26) ∷ []
 abbrev pub noAnswer : Order → ℕ → Bool
 noAnswer o a = unknownAnswer (OptionOrder.Some o) a
 
--- both writes: 25 while an event is open, 27 before event 1
+-- both writes: REF-25 while an event is open, REF-27 before event 1
 
 abbrev pub packetConditions : Bool → ℕ → List (Bool × ℕ)
 packetConditions waits number = (waits, 25) ∷ (eqb number 0, 27) ∷ []

@@ -38,7 +38,7 @@ abbrev pub answerTo : Stand → ℕ → Records → Step
 answerTo between a r = Step.Refused (firstRefused (answerConditions OptionOrder.None a))
 answerTo (at n o k) a r = cond (noAnswer o a) (Step.Refused 24) (brings n (k (resultOf a) r))
 
--- and the writes: the packet of the event closed last, what is held, or the number that turns it back
+-- PKT-2, the writes: the packet of the event closed last, what is held, or the number that turns it back
 
 -- into the places of a packet, one after the other
 abbrev pub pushedAll : Notices → List Event → Notices

@@ -1,4 +1,4 @@
-// Device orders.
+// Device orders (EVT-6).
 use power_policy_interface::capability::ConsumerPowerCapability;
 use power_policy_interface::capability::ProviderPowerCapability;
 

@@ -31,7 +31,7 @@ use Rattle.bytes_service_image.specs.declared.ReadService.{ReadService}
 use Rattle.bytes_follower_image.specs.Image.{followerBytes, followerFrom}
 use Rattle.bytes_follower_image.specs.declared.ReadFollower.{ReadFollower}
 
--- start: 20, then 21 for bytes of another length than an image's
+-- start: REF-20, then REF-21 for bytes of another length than an image's
 
 abbrev pub startedCall : List ℕ → Started → Called
 startedCall image (Started.Refused n) = refusedCall n image

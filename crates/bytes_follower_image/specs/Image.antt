@@ -1,4 +1,5 @@
--- The follower's image of 241 bytes (docs/STATE.md): 2, lost or showing, the number, the display and the seven slots.
+-- SHP-11: the follower's image of 241 bytes (docs/STATE.md): 2,
+-- lost or showing, the number, the display and the seven slots.
 use Prim.Native.Nat.{ℕ}
 use mathlib.Core.Bool.{Bool, true, false, cond, _&&_}
 use mathlib.Core.List.{List, [], _∷_, _++_}

@@ -1,5 +1,5 @@
--- The image of the service, 67 bytes (docs/STATE.md): its groups one after the other. Bytes are accepted if each group is, and the
--- service that they make is well formed.
+-- SHP-11: the image of the service, 67 bytes (docs/STATE.md): its groups one after the other. REF-21: bytes are accepted if each
+-- group is, and the service that they make is well formed.
 use Prim.Native.Nat.{ℕ}
 use mathlib.Core.Bool.{cond}
 use mathlib.Core.List.{List, _++_}

@@ -1,4 +1,5 @@
--- The services that calls lead to (crate invariant), and that an image is to be read as (docs/STATE.md). A test, so that it can be decided.
+-- The services that calls lead to (promise_invariant), and that an image
+-- is to be read as (docs/STATE.md). A test, so that it can be decided.
 use Prim.Native.Nat.{ℕ, _+_, _*_, _^_}
 use mathlib.Core.Bool.{Bool, true, false, not, _&&_, _||_}
 use lib.Dec.{leb, ltb}

@@ -1,4 +1,5 @@
--- What the packets held make of a picture in turn, without what is then held: the same steps as follower's `inTurn`.
+-- What the packets held make of a picture in turn, without what
+-- is then held: the same steps as desk_follower's `inTurn`.
 use Prim.Native.Nat.{ℕ, zero, suc, _+_, _-_}
 use mathlib.Core.Bool.{cond}
 use lib.Dec.{eqb}

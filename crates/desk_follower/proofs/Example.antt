@@ -1,4 +1,4 @@
--- P12: the five takes of document 01, computed by the definitions.
+-- P12: the five takes of the example (PRG-7), computed by the definitions.
 -- Assumes nothing.
 use mathlib.Core.Path.{_≡_, refl}
 use mathlib.Core.List.{List, [], _∷_}

@@ -1,4 +1,5 @@
--- The follower of document 01, "Packets and follower".
+-- The follower (FOL-1 to FOL-11) as the code has it, its packets in
+-- eight places. It does what the abstract one does (promise_link).
 use Prim.Native.Nat.{ℕ, zero, suc, _+_, max}
 use mathlib.Core.Bool.{Bool, cond}
 use lib.Dec.{eqb, leb, ltb}

@@ -1,4 +1,4 @@
--- Program `follow` of document 01: what it writes for its input.
+-- The program `follow` (PRG-1 to PRG-6): what it writes for its input.
 use Prim.Native.Nat.{ℕ, zero, suc, _+_}
 use mathlib.Core.Bool.{cond}
 use mathlib.Core.List.{List, [], _++_}
@@ -40,7 +40,7 @@ takenBy d p = record { packets = counted (d .packets); follower = afterRead (d .
 unfoldable pub lineFor : Desk → List ℕ → List ℕ
 lineFor d p = lineRead (counted (d .packets)) (d .follower) (readPacket p)
 
--- `K refused N` where no packet can be taken from the front of the bytes
+-- PRG-5: `K refused N` where no packet can be taken from the front of the bytes
 abbrev pub refusedAt : Desk → Framed → List ℕ
 refusedAt d r = refusedBytes (counted (d .packets)) (refusalOf r)
 
@@ -73,7 +73,7 @@ steppedBytes d s = bytesAt d s (framed s)
 abbrev pub steppedNext : List ℕ → Next
 steppedNext s = nextAt (framed s)
 
--- an end between packets writes nothing; bytes that are left are a packet cut short
+-- PRG-6: an end between packets writes nothing; bytes that are left are a packet cut short
 abbrev pub endBytes : Desk → List ℕ → List ℕ
 endBytes d s = cond (eqb (length s) 0) [] (refusedAt d Framed.Cut)
 

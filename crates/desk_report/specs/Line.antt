@@ -20,14 +20,14 @@ lineOf f =
 abbrev pub spaced : List ℕ → List ℕ
 spaced l = 32 ∷ l
 
--- ordinal, n, state, port, mW
+-- PRG-3: ordinal, n, state, port, mW
 unfoldable pub lineBytes : ℕ → Line → List ℕ
 lineBytes k l =
     decimal k
     ++ (spaced (number (l .shown))
     ++ (spaced (word (l .state)) ++ (spaced (number (l .port)) ++ (spaced (number (l .mw)) ++ (10 ∷ [])))))
 
--- `K refused N`
+-- PRG-4: `K refused N`
 unfoldable pub refusedBytes : ℕ → ℕ → List ℕ
 refusedBytes k n = decimal k ++ (refused ++ (decimal n ++ (10 ∷ [])))
 

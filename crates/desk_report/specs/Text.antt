@@ -20,13 +20,13 @@ abbrev pub number : OptionNumber → List ℕ
 number OptionNumber.None = 45 ∷ []
 number (OptionNumber.Some n) = decimal n
 
--- lost, level, waiting
+-- FRM-4: lost, level, waiting
 abbrev pub word : State → List ℕ
 word State.Lost = 108 ∷ 111 ∷ 115 ∷ 116 ∷ []
 word State.Level = 108 ∷ 101 ∷ 118 ∷ 101 ∷ 108 ∷ []
 word State.Waiting = 119 ∷ 97 ∷ 105 ∷ 116 ∷ 105 ∷ 110 ∷ 103 ∷ []
 
--- "take shown state port mw" and a line feed
+-- PRG-2: "take shown state port mw" and a line feed
 abbrev pub header : List ℕ
 header =
     116 ∷ 97 ∷ 107 ∷ 101 ∷ 32

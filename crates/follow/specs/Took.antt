@@ -1,4 +1,4 @@
--- What the functions of `follow` leave, as the turns of report's Reads have it. What is read and written no contract can say.
+-- What the functions of `follow` leave, as the turns of desk_report's Reads have it. What is read and written no contract can say.
 use Prim.Native.Nat.{ℕ, _-_}
 use mathlib.Core.Path.{_≡_}
 use mathlib.Core.List.{List, [], _++_}

@@ -1,6 +1,6 @@
-// The program `follow` of document 01: packets on standard input, each after its length, and a line for each on standard output. What a
-// packet does and what its line says is the crate `report`'s; here bytes are read and lines written. Each function leaves what a turn of
-// report's Reads leaves; that such turns, over any reads, write `follow` of the whole input is report's theorem `run-is-follow`.
+// The program `follow` (PRG): packets on standard input, each after its length, and a line for each on standard output. What a packet
+// does and what its line says is the crate `desk_report`'s; here bytes are read and lines written. Each function leaves what a turn of
+// its Reads leaves; that such turns, over any reads, write `follow` of the whole input is its theorem `run-is-follow`.
 use desk_report::desk::Desk;
 use desk_report::desk::Next;
 use libc::STDERR_FILENO;

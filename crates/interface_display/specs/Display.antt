@@ -1,4 +1,4 @@
--- What is held between events, and what a notice makes of it (document 01: applied, notices act in order).
+-- What is held between events (LNK-5), and what a notice makes of it (FOL-9).
 use mathlib.Core.Bool.{false}
 use Rattle.power_policy_interface.specs.declared.service.UnconstrainedState.{UnconstrainedState}
 use Rattle.power_policy_interface.specs.declared.service.event.Event.{Event}
@@ -24,7 +24,8 @@ setUnconstrained d u = record { consumer = d .consumer; unconstrained = u; provi
 abbrev pub setProviders : Display → Providers → Display
 setProviders d p = record { consumer = d .consumer; unconstrained = d .unconstrained; providers = p }
 
--- 1 leaves no consumer; 2 sets it; 3 untracks the port; 4 tracks it if there or fewer than four are; 5 sets both figures
+-- FOL-9: 1 leaves no consumer; 2 sets it; 3 untracks the port; 4
+-- tracks it if there or fewer than four are; 5 sets both figures
 abbrev pub appliedTo : Display → Event → Display
 appliedTo d (Event.ConsumerDisconnected p f) = setConsumer d OptionAvailableConsumer.None
 appliedTo d (Event.ConsumerConnected p c) =

@@ -1,4 +1,4 @@
--- The notices of an event: four places, of which the first `count` are meant.
+-- PKT-8: the notices of an event: four places, of which the first `count` are meant.
 use Prim.Native.Nat.{ℕ, zero, suc}
 use mathlib.Core.Bool.{Bool, true, false, _&&_}
 use mathlib.Core.List.{List, [], _∷_}
@@ -40,7 +40,7 @@ pushedAt (suc (suc (suc (suc k)))) n e = n
 abbrev pub pushed : Notices → Event → Notices
 pushed n e = pushedAt (n .count) n e
 
--- the first is applied first
+-- FOL-9: the first is applied first
 abbrev pub appliedAll : List Event → Display → Display
 appliedAll [] d = d
 appliedAll (e ∷ l) d = appliedAll l (appliedTo d e)

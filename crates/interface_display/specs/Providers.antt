@@ -1,6 +1,6 @@
--- The set of fixed capacity, from heapless's documentation: `insert` of a value that is there changes nothing, of a new one adds
+-- DEM-2a: the set of fixed capacity, from heapless's documentation: `insert` of a value that is there changes nothing, of a new one adds
 -- it unless the set is full; `remove` says whether it was there. The values are ports 0 to 15, a bit each; there is never room for another
--- number, which 23 and the reader keep out. Set.antt says the same over membership alone.
+-- number, which REF-23 and the reader keep out. Set.antt says the same over membership alone.
 use Prim.Native.Nat.{ℕ, zero, suc, _+_, _/_, _%_, _^_}
 use mathlib.Core.Bool.{Bool, true, false, cond, _&&_}
 use lib.Bits.{bitOr, bitXor}

@@ -1,5 +1,5 @@
--- What heapless's documentation says of a set of fixed capacity, over membership: which values are there after `insert` and `remove`, how many, and
--- what is found. The values are ports, so that there is room for a number below 16 alone. Proved in proofs/Set.antt.
+-- DEM-2a: what heapless's documentation says of a set of fixed capacity, over membership: which values are there after `insert` and `remove`, how
+-- many, and what is found. The values are ports, so that there is room for a number below 16 alone. Proved in proofs/Set.antt.
 use Prim.Native.Nat.{ℕ, _+_, _<_, _≤_}
 use mathlib.Core.Bool.{true, false, cond, not, _&&_, _||_}
 use mathlib.Core.Logic.{_↔_}

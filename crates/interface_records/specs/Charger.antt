@@ -1,5 +1,5 @@
--- The charger record of 7 bytes (state 0 Unpowered, 1 Init, 2 PsuAttached, 3 PsuDetached; presence, capability), and the row of
--- a console's chargers.
+-- SHP-10: the charger record of 7 bytes (state 0 Unpowered, 1 Init, 2 PsuAttached,
+-- 3 PsuDetached; presence, capability), and the row of a console's chargers.
 use Prim.Native.Nat.{ℕ}
 use mathlib.Core.Bool.{true, false, cond}
 use mathlib.Core.List.{List, [], _∷_}

@@ -1,4 +1,5 @@
--- A group of six bytes: a number, and a capability as mV and mA low byte first and the flag byte. Absent is zeros.
+-- SHP-9: a group of six bytes: a number, and a capability as
+-- mV and mA low byte first and the flag byte. Absent is zeros.
 use Prim.Native.Nat.{ℕ, _+_, _*_, _/_, _%_}
 use mathlib.Core.Bool.{Bool, cond}
 use mathlib.Core.List.{List, [], _∷_}
@@ -105,7 +106,7 @@ providerCases g =
     ∷ providerPresent (providerFrom g)
     ∷ []
 
--- a presence above 1 is refused
+-- REF-22: a presence above 1 is refused
 abbrev pub optionConsumerFrom : Group → ReadConsumer
 optionConsumerFrom g = getD (consumerCases g) (g .number) ReadConsumer.Refused
 

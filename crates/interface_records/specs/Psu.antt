@@ -1,5 +1,5 @@
--- The PSU record of 18 bytes (state 0 Detached, 1 Idle, 2 ConnectedProvider, 3 ConnectedConsumer; contract; consumer capability;
--- provider request), and the row of a console's ports.
+-- SHP-8: the PSU record of 18 bytes (state 0 Detached, 1 Idle, 2 ConnectedProvider, 3 ConnectedConsumer; contract; consumer
+-- capability; provider request), and the row of a console's ports.
 use Prim.Native.Nat.{ℕ}
 use mathlib.Core.Bool.{true, false, cond}
 use mathlib.Core.List.{List, [], _∷_, _++_}
@@ -52,7 +52,7 @@ stateCases g =
     ∷ consuming (consumerFrom g)
     ∷ []
 
--- a state above 3 is refused
+-- REF-22: a state above 3 is refused
 abbrev pub psuStateFrom : Group → ReadPsuState
 psuStateFrom g = getD (stateCases g) (g .number) ReadPsuState.Refused
 

@@ -1,4 +1,4 @@
--- A row of records of one width, read one after the other; none where any is refused.
+-- REF-22: a row of records of one width, read one after the other; none where any is refused.
 use Prim.Native.Nat.{ℕ, zero, suc, _*_, _-_, _<_}
 use mathlib.Core.Bool.{_&&_, cond}
 use mathlib.Core.List.{List, [], _∷_, _++_}

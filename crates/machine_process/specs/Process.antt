@@ -1,5 +1,5 @@
 -- What an event does and what an answer leads to, from one order to the next. That it follows the event as
--- transcribed from the Rust is shown in `interaction`.
+-- transcribed from the Rust is shown in `machine_follows`.
 use Prim.Native.Nat.{ℕ, suc, min}
 use mathlib.Core.Bool.{cond}
 use lib.Dec.{ltb}

@@ -60,7 +60,7 @@ packetOf s =
 abbrev pub pictureOf : Service → Picture
 pictureOf s = record { number = s .number; display = displayOf (s .memory .state) }
 
--- 25: while an event is open; 27: before event 1
+-- REF-25: while an event is open; REF-27: before event 1
 
 abbrev pub packetRefusals : Service → List (Bool × ℕ)
 packetRefusals s = packetConditions (isOpen (s .phase)) (s .number)

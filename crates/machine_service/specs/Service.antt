@@ -96,7 +96,7 @@ clearedOf s = remember (s .memory .state) noNotices
 abbrev pub openedOf : Service → ℕ → EventData → Records → Stepped
 openedOf s port e r = moved (s .registration) (s .number) 0 (processOf (s .registration) (clearedOf s) port e r)
 
--- a charger's event (kind 5) changes nothing, has no number and gives no order
+-- EVT-17: a charger's event (kind 5) changes nothing, has no number and gives no order
 abbrev pub openOf : Service → ℕ → ℕ → ℕ → Records → Stepped
 openOf s kind device detail r =
     let n : ℕ = firstRefused (openRefusals s kind device detail) in

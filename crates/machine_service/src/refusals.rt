@@ -1,4 +1,5 @@
-// What turns a call back: each numbered condition of document 01 on what it looks at, and the first number that applies.
+// What turns a call back: each numbered condition (REF-23 to
+// REF-28) on what it looks at, and the first number that applies.
 use abstract_policy::order::OptionOrder;
 use abstract_policy::order::Order;
 ghost use mathlib.Core.Path.{_≡_};

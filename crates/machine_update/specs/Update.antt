@@ -1,4 +1,5 @@
--- The update of the consumer, from one order to the next. That it follows the update as transcribed from the Rust is shown in `interaction`.
+-- The update of the consumer, from one order to the next. That it follows
+-- the update as transcribed from the Rust is shown in `machine_follows`.
 use Prim.Native.Nat.{ℕ, _-_}
 use mathlib.Core.Bool.{Bool, cond}
 use lib.Dec.{ltb}

@@ -1,5 +1,5 @@
-// The C functions, on numbers and byte slices (docs/STATE.md, include/power_policy.h). Each returns one 64-bit number; a call that is turned back leaves every
-// byte that it was lent.
+// The C functions (SHP-7), on numbers and byte slices (docs/STATE.md, include/power_policy.h).
+// Each returns one 64-bit number; a call that is turned back leaves every byte that it was lent.
 use power_policy_service::config::Config;
 ghost use mathlib.Core.Path.{_≡_};
 ghost use Rattle.abstract_calls.specs.Functions.{arguments};

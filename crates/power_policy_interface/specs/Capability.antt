@@ -1,5 +1,5 @@
--- What the functions of capability.rt compute. A flag byte has unconstrained_power at bit 0 and the PSU type's number at bits
--- 1 to 3; the rest are 0.
+-- What the functions of capability.rt compute. A flag byte (PKT-15) has unconstrained_power at bit 0 and the PSU type's
+-- number at bits 1 to 3; the rest are 0.
 use Prim.Native.Nat.{ℕ, _+_, _*_, _/_, _%_}
 use mathlib.Core.Bool.{Bool, true, false, cond, _&&_}
 use mathlib.Core.List.{List, [], _∷_}
@@ -22,7 +22,7 @@ use Rattle.power_policy_interface.specs.declared.capability.OptionDiscon
 use Rattle.power_policy_interface.specs.declared.capability.DisconnectFlags.{DisconnectFlags}
 use Rattle.power_policy_interface.specs.declared.capability.OptionDisconnectFlags.{OptionDisconnectFlags}
 
--- mW = mV × mA / 1000, rounded down
+-- LEA-1: mW = mV × mA / 1000, rounded down
 abbrev pub maxPowerMw : PowerCapability → ℕ
 maxPowerMw c = c .«voltage_mv» * c .«current_ma» / 1000
 
@@ -33,7 +33,7 @@ capabilityFits c = leb (c .«voltage_mv») 65535 && leb (c .«current_ma») 6553
 abbrev pub cmpCapability : PowerCapability → PowerCapability → Ordering
 cmpCapability a b = cmpNat (maxPowerMw a) (maxPowerMw b)
 
--- 0 none, 1 TypeC, 2 DcJack, 3 to 6 Custom0 to Custom3
+-- PKT-15: 0 none, 1 TypeC, 2 DcJack, 3 to 6 Custom0 to Custom3
 abbrev pub psuTypeNumber : OptionPsuType → ℕ
 psuTypeNumber OptionPsuType.None = 0
 psuTypeNumber (OptionPsuType.Some PsuType.TypeC) = 1
@@ -106,7 +106,7 @@ isRenegotiation DisconnectReason.ManualRenegotiation = true
 isRenegotiation DisconnectReason.RoleSwap = false
 isRenegotiation DisconnectReason.Reset = false
 
--- 0 none, 1 Detached, then as written, to 6 Reset
+-- PKT-10: 0 none, 1 Detached, then as written, to 6 Reset
 abbrev pub reasonByte : OptionDisconnectReason → ℕ
 reasonByte OptionDisconnectReason.None = 0
 reasonByte (OptionDisconnectReason.Some DisconnectReason.Detached) = 1
@@ -133,6 +133,6 @@ reasons =
     ∷ given (OptionDisconnectReason.Some DisconnectReason.Reset)
     ∷ []
 
--- above 6 is refused
+-- above 6 is refused (REF-24, REF-32)
 abbrev pub disconnectFrom : ℕ → OptionDisconnectFlags
 disconnectFrom b = getD reasons b OptionDisconnectFlags.None

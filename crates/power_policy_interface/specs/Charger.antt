@@ -1,4 +1,4 @@
--- What the functions of charger.rt and charger/event.rt compute, line by line as charger/mod.rs has it.
+-- LEA-3: what the functions of charger.rt and charger/event.rt compute, line by line as charger/mod.rs has it.
 use Prim.Native.Nat.{ℕ}
 use mathlib.Core.Bool.{Bool, true, false}
 use mathlib.Core.List.{[], _∷_}
@@ -18,12 +18,12 @@ abbrev pub psuStateOf : Bool → PsuState
 psuStateOf true = PsuState.Attached
 psuStateOf false = PsuState.Detached
 
--- 0 Attached, 1 Detached; above 1 is refused
+-- 0 Attached, 1 Detached; above 1 is refused (REF-24)
 abbrev pub psuStateFrom : ℕ → OptionPsuState
 psuStateFrom b =
     getD (OptionPsuState.Some PsuState.Attached ∷ OptionPsuState.Some PsuState.Detached ∷ []) b OptionPsuState.None
 
--- 0 Unpowered, 1 Init, 2 PsuAttached, 3 PsuDetached
+-- SHP-10: 0 Unpowered, 1 Init, 2 PsuAttached, 3 PsuDetached
 abbrev pub internalNumber : InternalState → ℕ
 internalNumber InternalState.Unpowered = 0
 internalNumber (InternalState.Powered PoweredSubstate.Init) = 1

@@ -1,30 +1,30 @@
--- Limits and lengths that the documents name, each once; the code's are in src/limits.rt.
+-- Limits and lengths that docs/REQUIREMENTS.md names, each once; the code's are in src/limits.rt.
 use Prim.Native.Nat.{ℕ}
 
--- the greatest number of 32 bits: of milliwatts, and of an event
+-- the greatest number of 32 bits: of milliwatts, and of an event (PKT-6, REF-28)
 abbrev pub largest : ℕ
 largest = 4294967295
 
--- ports and chargers that can be registered
+-- EVT-2: ports and chargers that can be registered
 abbrev pub maxPorts : ℕ
 maxPorts = 16
 
 abbrev pub maxChargers : ℕ
 maxChargers = 8
 
--- device orders of an event: 3 + 4 × chargers
+-- DEM-1a, PKT-9: device orders of an event, 3 + 4 × chargers
 abbrev pub maxOrders : ℕ
 maxOrders = 35
 
--- notices of an event
+-- PKT-8: notices of an event
 abbrev pub maxNotices : ℕ
 maxNotices = 4
 
--- a follower that shows n takes packets of the events up to n + window; beyond, it is lost
+-- FOL-5, FOL-6: a follower that shows n takes packets of the events up to n + window; beyond, it is lost
 abbrev pub window : ℕ
 window = 8
 
--- bytes of the records of a port and of a charger, and of both images
+-- SHP-8, SHP-10, SHP-11: bytes of the records of a port and of a charger, and of both images
 abbrev pub psuLength : ℕ
 psuLength = 18
 
@@ -37,6 +37,6 @@ serviceLength = 67
 abbrev pub followerLength : ℕ
 followerLength = 241
 
--- bytes of a buffer that every packet and picture fits in, and of the longest packet of a stream
+-- REF-29, PRG-1: bytes of a buffer that every packet and picture fits in, and of the longest packet of a stream
 abbrev pub bufferLength : ℕ
 bufferLength = 64

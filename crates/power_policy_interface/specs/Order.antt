@@ -1,5 +1,5 @@
--- Rust's total orders, as its documentation gives them: `Ordering` has three values, numbers have their own order, false is
--- less than true, and pairs are ordered lexicographically.
+-- DEM-2a: Rust's total orders, as its documentation gives them: `Ordering` has three values, numbers have their own order,
+-- false is less than true, and pairs are ordered lexicographically.
 use Prim.Native.Nat.{ℕ, compare, Ordering·lt, Ordering·eq, Ordering·gt}
 use Prim.Native.Nat as Native
 use mathlib.Core.Bool.{Bool, true, false}

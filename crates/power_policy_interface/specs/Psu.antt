@@ -1,4 +1,5 @@
--- What the functions of psu.rt compute, line by line as psu/mod.rs has it. A set of state kinds is a number with one bit per kind.
+-- LEA-2: what the functions of psu.rt compute, line by line as psu/mod.rs
+-- has it. A set of state kinds is a number with a bit per kind.
 use Prim.Native.Nat.{ℕ, _/_, _%_, _^_}
 use mathlib.Core.Bool.{Bool, cond}
 use mathlib.Core.List.{List, [], _∷_}
@@ -31,7 +32,7 @@ kindOf (PsuState.ConnectedProvider c) = StateKind.ConnectedProvider
 kindOf (PsuState.ConnectedConsumer c) = StateKind.ConnectedConsumer
 kindOf PsuState.Detached = StateKind.Detached
 
--- bit k of a set is its kind numbered k
+-- SHP-4, FRM-2: bit k of a set is its kind numbered k
 abbrev pub withKind : ℕ → StateKind → ℕ
 withKind set k = bitOr set (2 ^ kindNumber k)
 
@@ -56,7 +57,7 @@ invalidState expected actual = Error.InvalidState (OptionMismatch.Some (record {
 abbrev pub expectOf : ℕ → StateKind → Result
 expectOf expected actual = cond (hasKind expected actual) Result.Ok (Result.Err (invalidState expected actual))
 
--- 1 InvalidDevice, then as written, to 10 Failed
+-- PKT-3: 1 InvalidDevice, then as written, to 10 Failed
 abbrev pub errorByte : Error → ℕ
 errorByte Error.InvalidDevice = 1
 errorByte Error.CannotProvide = 2
@@ -69,7 +70,7 @@ errorByte Error.Bus = 8
 errorByte Error.Charger = 9
 errorByte Error.Failed = 10
 
--- what an InvalidState carries
+-- PKT-5: what an InvalidState carries
 abbrev pub mismatchOf : Error → OptionMismatch
 mismatchOf Error.InvalidDevice = OptionMismatch.None
 mismatchOf Error.CannotProvide = OptionMismatch.None
@@ -92,7 +93,7 @@ abbrev pub actualByte : OptionMismatch → ℕ
 actualByte OptionMismatch.None = 0
 actualByte (OptionMismatch.Some m) = kindNumber (m .actual)
 
--- 0 done
+-- PKT-3: 0 done
 abbrev pub answerByte : Result → ℕ
 answerByte Result.Ok = 0
 answerByte (Result.Err e) = errorByte e
@@ -115,7 +116,7 @@ answers =
     ∷ failed Error.Failed
     ∷ []
 
--- above 10 is refused; what a device's error carries is dropped
+-- PKT-4: above 10 is refused; what a device's error carries is dropped
 abbrev pub answerFrom : ℕ → OptionResult
 answerFrom b = getD answers b OptionResult.None
 
@@ -157,6 +158,7 @@ clearCaps s =
       «requested_provider_capability» = OptionProviderPowerCapability.None;
     }
 
+-- LEA-4: attach, and disconnect below, enter Idle whatever the result
 abbrev pub attachOf : State → Transition
 attachOf s = record { result = expectOf detachedKind (kindOf (s .«psu_state»)); state = enter PsuState.Idle s }
 
@@ -181,7 +183,7 @@ updateConsumerOf s c =
       };
     }
 
--- an equal request is already known: no error in any state
+-- EDG-9: an equal request is already known: no error in any state
 abbrev pub updateRequestedOf : State → OptionProviderPowerCapability → Transition
 updateRequestedOf s p =
     cond (sameOptionProvider (s .«requested_provider_capability») p) (record { result = Result.Ok; state = s })

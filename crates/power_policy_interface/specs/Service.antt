@@ -5,7 +5,7 @@ use Rattle.power_policy_interface.specs.declared.service.UnconstrainedSt
 use Rattle.power_policy_interface.specs.declared.service.event.Event.{Event}
 use Rattle.power_policy_interface.specs.declared.service.event.EventData.{EventData}
 
--- equality of both figures (proofs/Same.antt: true exactly at equal values)
+-- UPD-13: equality of both figures (proofs/Same.antt: true exactly at equal values)
 abbrev pub sameUnconstrained : UnconstrainedState → UnconstrainedState → Bool
 sameUnconstrained a b = eqb (a .available) (b .available) && Bool·beq (a .unconstrained) (b .unconstrained)
 

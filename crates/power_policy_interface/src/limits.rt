@@ -1,4 +1,4 @@
-// Limits and lengths that the documents name, each once; the definitions' are in specs/Limits.antt.
+// Limits and lengths that docs/REQUIREMENTS.md names, each once; the definitions' are in specs/Limits.antt.
 
 // The greatest number of 32 bits: of milliwatts, and of an event.
 pub const LARGEST: u32 = 4294967295;

@@ -1,5 +1,5 @@
 -- The two statements of the choice are equal. Rust's order of the pairs (mW, is current) is that of the numbers 2 × mW + (1 if current), and
--- the earliest port with the greatest such number is what demand 2 says.
+-- the earliest port with the greatest such number is what DEM-2c says.
 use mathlib.Core.Path.{_≡_, refl, sym, ap, _∙_, subst}
 use mathlib.Core.Bool.{Bool, true, false, cond}
 use mathlib.Core.List.{List}

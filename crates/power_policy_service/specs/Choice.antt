@@ -1,4 +1,4 @@
--- The choice as demand 2 says it: none if no port is eligible; else an eligible port such that no eligible port has more milliwatts, and of
+-- The choice as DEM-2c says it: none if no port is eligible; else an eligible port such that no eligible port has more milliwatts, and of
 -- equals the current one, else the earliest. That this is what the order of pairs gives is in proofs/Choice.antt.
 use Prim.Native.Nat.{ℕ, _<_, _≤_}
 use mathlib.Core.Bool.{true, false}

@@ -1,4 +1,4 @@
--- The configurations of document 01: USB Type-C's 5 V at 3,000 mA and at 1,500 mA, 15,000 mW, no minimum.
+-- LEA-5: the default configuration: USB Type-C's 5 V at 3,000 mA and at 1,500 mA, 15,000 mW, no minimum.
 use Prim.Native.Nat.{ℕ, _≤_}
 use mathlib.Core.Bool.{true, cond, _&&_}
 use mathlib.Core.Path.{_≡_}
@@ -49,7 +49,7 @@ configWith t u l (ReadMinimum.Read m) =
       «min_consumer_threshold_mw» = m;
     })
 
--- every figure fits its Rust type
+-- REF-20: every figure fits its Rust type
 abbrev pub configFrom : ℕ → ℕ → ℕ → ℕ → ℕ → ℕ → ℕ → OptionConfig
 configFrom t uv ua lv la presence minimum =
     cond (leb t 0xffff_ffff && (leb uv 0xffff && (leb ua 0xffff && (leb lv 0xffff && leb la 0xffff))))

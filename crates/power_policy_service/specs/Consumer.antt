@@ -1,4 +1,5 @@
--- The choice of the consumer: the greatest pair (mW, is current) by Rust's order of pairs, the earliest port among equals.
+-- UPD-2: the choice of the consumer: the greatest pair (mW, is
+-- current) by Rust's order of pairs, the earliest port among equals.
 use Prim.Native.Nat.{ℕ, zero, suc}
 use mathlib.Core.Bool.{Bool, true, false, cond}
 use mathlib.Core.List.{List}
@@ -26,7 +27,8 @@ offered m OptionConsumerPowerCapability.None = OptionConsumerPowerCapability.Non
 offered m (OptionConsumerPowerCapability.Some c) =
     cond (meets m c) (OptionConsumerPowerCapability.Some c) OptionConsumerPowerCapability.None
 
--- a port is eligible if its record has a consumer capability and no minimum is set or its mW is at least the minimum
+-- UPD-1, UPD-3: a port is eligible if its record has a consumer
+-- capability and no minimum is set or its mW is at least the minimum
 abbrev pub eligible : OptionMilliwatts → State → OptionConsumerPowerCapability
 eligible m s = offered m (s .«consumer_capability»)
 
@@ -42,7 +44,7 @@ replaced Ordering.Less new best = best
 replaced Ordering.Equal new best = best
 replaced Ordering.Greater new best = new
 
--- what a port offers replaces the best so far only if it is greater
+-- what a port offers replaces the best so far only if it is greater (MIS-5)
 abbrev pub betterOf : OptionAvailableConsumer → OptionAvailableConsumer → ℕ → OptionConsumerPowerCapability → OptionAvailableConsumer
 betterOf current best p OptionConsumerPowerCapability.None = best
 betterOf current OptionAvailableConsumer.None p (OptionConsumerPowerCapability.Some c) = available p c

@@ -1,4 +1,5 @@
--- What Rust's documentation says of the order of numbers, of bool and of pairs, and that the choice compares by it. Proved in proofs/PairOrder.antt.
+-- DEM-2a: what Rust's documentation says of the order of numbers, of bool and of
+-- pairs, and that the choice compares by it. Proved in proofs/PairOrder.antt.
 use Prim.Native.Nat.{ℕ, _<_}
 use mathlib.Core.Bool.{Bool, true, false}
 use mathlib.Core.Logic.{_↔_, _⊎_}

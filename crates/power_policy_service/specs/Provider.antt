@@ -1,4 +1,4 @@
--- Totals as sums over the row, the power state, and what a request is granted (provider.rs).
+-- Totals as sums over the row (EVT-9), the power state, and what a request is granted (provider.rs; PRV).
 use Prim.Native.Nat.{ℕ, zero, suc, _+_}
 use mathlib.Core.Bool.{cond}
 use mathlib.Core.List.{List}
@@ -21,7 +21,7 @@ providedMw (OptionProviderPowerCapability.Some c) = maxPowerMw (c .capability)
 abbrev pub connectedMw : State → ℕ
 connectedMw s = providedMw (connectedProviderOf s)
 
--- the requester counts with its request
+-- PRV-2: the requester counts with its request
 abbrev pub requestedMw : ℕ → ProviderPowerCapability → ℕ → State → ℕ
 requestedMw requester request p s = cond (eqb p requester) (maxPowerMw (request .capability)) (connectedMw s)
 
@@ -36,15 +36,15 @@ totalOf psus n = sumTo (λ p. connectedMw (psuAt psus p)) n
 abbrev pub totalWith : ℕ → ProviderPowerCapability → List State → ℕ → ℕ
 totalWith requester request psus n = sumTo (λ p. requestedMw requester request p (psuAt psus p)) n
 
--- above the threshold is Limited, equal or below is Unlimited
+-- EVT-9: above the threshold is Limited, equal or below is Unlimited
 abbrev pub powerStateOf : Config → ℕ → PowerState
 powerStateOf c total = cond (ltb (c .«limited_power_threshold_mw») total) PowerState.Limited PowerState.Unlimited
 
 abbrev pub granted : PowerCapability → ProviderPowerCapability → ProviderPowerCapability
 granted p request = record { capability = p; flags = request .flags }
 
--- Limited: the limited capability, also above the request; Unlimited: the request if it has fewer mW than the unlimited capability, else that, with
--- the request's flags
+-- PRV-4, MIS-3: Limited, the limited capability, also above the request. PRV-5: Unlimited, the request if it has fewer mW than the unlimited
+-- capability, else that. PRV-6: with the request's flags
 abbrev pub grantOf : Config → PowerState → ProviderPowerCapability → ProviderPowerCapability
 grantOf c PowerState.Limited request = granted (c .«provider_limited») request
 grantOf c PowerState.Unlimited request =

@@ -1,4 +1,5 @@
--- The USB Type-C specification's source currents at 5 V, and what the default configurations grant beside them. Proved in proofs/TypeC.antt.
+-- DEM-2a: the USB Type-C specification's source currents at 5 V, and what
+-- the default configurations grant beside them. Proved in proofs/TypeC.antt.
 use Prim.Native.Nat.{ℕ}
 use mathlib.Core.Logic.{_⊎_}
 use mathlib.Core.Path.{_≡_}

@@ -1,5 +1,5 @@
 -- The desk's calls on an image that a follower start left, whatever bytes are taken: the image is read as the code's follower after them, which says what
--- document 01's does (promise_link proofs/Alike.antt).
+-- the abstract one does (promise_link proofs/Alike.antt).
 use mathlib.Core.Path.{_≡_, refl, sym, ap, _∙_, subst}
 use mathlib.Core.Bool.{Bool, true, false, cond}
 use mathlib.Core.List.{List, [], _∷_}
@@ -67,7 +67,7 @@ module _ (x : List ℕ) (e : length x ≡ followerLength) (l : List DeskCall) (a
   told : (t : Follower → ℕ) → readerCall (followerFrom (desk functions x l)) t ≡ t (followerAfter (packetsOf l))
   told t = ap (λ (r : ReadFollower). readerCall r t) read
 
--- what the code's follower tells is what document 01's does
+-- what the code's follower tells is what the abstract one does
 
 shown-by : (s : Shown) (h : Held) (t : State) → t ≡ paper.state (seenAt s h) → shownAs t s ≡ shownBy (seenAt s h)
 shown-by (Shown.Lost floor) h t e = refl

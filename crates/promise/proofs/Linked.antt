@@ -1,5 +1,5 @@
--- Demand 3 of our functions: a packet or picture of the run is read as what the definition has there, so that run's theorem on the link says what the
--- follower shows, and its readers return that.
+-- DEM-3 of our functions: a packet or picture of the run is read as what the definition has there, so that promise_run's theorem on the link says
+-- what the follower shows, and its readers return that.
 use mathlib.Core.Path.{_≡_, refl, sym, ap, _∙_, subst}
 use mathlib.Core.Bool.{true}
 use mathlib.Core.List.{List, [], _∷_, _++_}

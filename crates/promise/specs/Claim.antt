@@ -20,7 +20,7 @@ use Rattle.promise.specs.Promise.{startRefused, registers, Promise, Mean
 use Rattle.promise.specs.Same.{Same}
 use Rattle.promise.specs.Testers.{Testers}
 
--- public documents first
+-- DEM-2a: public documents first
 pub record Documents : Type 0 where
   -- heapless's set of fixed capacity
   pub set : SetLaws
@@ -33,15 +33,15 @@ pub record Documents : Type 0 where
 pub record Claim : Type 0 where
   -- a start is accepted, here by the Rust's default with one port; a run after it, and takes that meet what demand 3 asks for, are in proofs/Refuted.antt
   pub accepted : startRefused (replicate serviceLength 0) (arguments 1 0 15000 5000 3000 5000 1500 0 0) ≡ 0
-  -- our functions keep the promise
+  -- our functions keep the promise (LNK-7: demand 3 among it)
   pub promised : Promise functions
-  -- and only one behaviour does
+  -- TST-1: and only one behaviour does
   pub only-one : (f g : Functions) → Promise f → Promise g → Same f g
-  -- so that none of the testers' programs does
+  -- TST-4 to TST-11: so that none of the testers' programs does
   pub testers : Testers
   -- what the definition's words come to, of whatever a start accepts
   pub meaning : (image : List ℕ) (a : Arguments) → startRefused image a ≡ 0 → (c : Config) → configOf a ≡ OptionConfig.Some c → Meaning (registers a c)
-  -- document 01's "lowest applicable": among its numbers the order in which conditions are looked at is that of size
+  -- REF-2, the lowest that applies: among the base's numbers the order in which conditions are looked at is that of size
   pub rank-size : (n m : ℕ) → Base n → Base m → (rank n ≤ rank m) ↔ (n ≤ m)
   pub lowest : (l : List (Bool × ℕ)) (n : ℕ) → ((m : ℕ) → Applies m l → Base m) → First l n → Lowest l n
   pub documents : Documents

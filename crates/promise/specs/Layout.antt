@@ -1,5 +1,5 @@
--- What is promised of the bytes themselves: one encoding of each value, so that accepted bytes are those written; 21 exactly where bytes are no image; the
--- program `follow`; the edges of document 01.
+-- SHP-11: what is promised of the bytes themselves: one encoding of each value, so that accepted
+-- bytes are those written; 21 exactly where bytes are no image; the program `follow`; the edges.
 use Prim.Native.Nat.{ℕ, _+_, _*_, _-_, _%_, _≤_}
 use mathlib.Core.Bool.{true, false}
 use mathlib.Core.List.{List, _++_, flatten}
@@ -52,7 +52,7 @@ use Rattle.promise_calls.specs.Refused.{conditions}
 use Rattle.promise.specs.Promise.{startRefused, registers}
 
 pub record Layout : Type 0 where
-  -- 21 is exact: bytes are read as a service, or as a follower, exactly if it is well formed and they are its image.
+  -- REF-21 is exact: bytes are read as a service, or as a follower, exactly if it is well formed and they are its image.
   pub service-image :
       (b : List ℕ) (s : Service) → AllBytes b → (serviceFrom b ≡ ReadService.Read s) ↔ ((serviceBytes s ≡ b) × (Typed s × (wellFormed s ≡ true)))
   pub follower-image :

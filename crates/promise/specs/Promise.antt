@@ -61,20 +61,20 @@ startRefused image a = firstRefused (startConditions image (configOf a) (a .port
 abbrev pub registers : Arguments → Config → Registration
 registers a c = record { config = c; ports = a .ports; chargers = a .chargers }
 
--- Demand 3, of the run of these calls and of the desk's calls from a fresh follower on, whose image is kept at x: in any list of them each packet handed over
+-- DEM-3d, LNK-1: of the run of these calls and of the desk's calls from a fresh follower on, whose image is kept at x: in any list of them each packet handed over
 -- (`packetsOf`) is a copy of what the run wrote, or bytes that are turned back.
 pub record Link (f : Functions) (image : List ℕ) (g : Registration) (calls : List ByteCall) (x : List ℕ) : Type 0 where
-  -- The follower says lost, or shows an n with exactly the consumer, both unconstrained figures and tracked ports held when event n closed (0: the start).
+  -- DEM-3a: the follower says lost, or shows an n with exactly the consumer, both unconstrained figures and tracked ports held when event n closed (0: the start).
   pub never-wrong :
       (l : List DeskCall) → AllHanded f image g calls (packetsOf l) →
       Lost f (desk f x l) ⊎ ((n : ℕ) × (n ≤ defined g calls .number) × Shows f (desk f x l) n (held g calls n))
-  -- If it shows n and then each event packet n + 1 to n + k comes, in any order, k ≤ 8, all without error, and nothing above n + k anywhere among the takes,
-  -- it shows n + k.
+  -- DEM-3b: if it shows n and then each event packet n + 1 to n + k comes, in any order, k ≤ 8, all without error, and nothing above n + k anywhere among
+  -- the takes, it shows n + k.
   pub follows :
       (before later : List DeskCall) (n k : ℕ) → AllHanded f image g calls (packetsOf (before ++ later)) → Shows f (desk f x before) n (held g calls n) → k ≤ window →
       Comes f image g calls n k (packetsOf later) → NothingAbove f image g calls (n + k) (packetsOf (before ++ later)) →
       Shows f (desk f x (before ++ later)) (n + k) (held g calls (n + k))
-  -- Lost, it shows a picture exactly when that is numbered no lower than every event packet met before.
+  -- DEM-3c: lost, it shows a picture exactly when that is numbered no lower than every event packet met before.
   pub recovers :
       (before : List DeskCall) (n : ℕ) (y : List ℕ) → AllHanded f image g calls (packetsOf before) → PictureOf f image g calls n y → Lost f (desk f x before) →
       Shows f (desk f x (before ++ (takePacket y ∷ []))) n (held g calls n) ↔ NoEventAbove f image g calls n (packetsOf before)
@@ -84,20 +84,20 @@ pub record Link (f : Functions) (image : List ℕ) (g : Registration) (calls : L
       ((n : ℕ) → PictureOf f image g calls n y → NoEventAbove f image g calls n (packetsOf before) → ⊥) →
       Lost f (desk f x (before ++ (takePacket y ∷ [])))
 
--- Demands 1 and 2, of what a start left, g registered: every list of calls after it, refused ones included. That an event ends in time is of the
+-- DEM-1 and DEM-2, of what a start left, g registered: every list of calls after it, refused ones included. That an event ends in time is of the
 -- definition, which these calls follow (Meaning, below).
 pub record Serves (f : Functions) (image : List ℕ) (g : Registration) : Type 0 where
-  -- A call is refused only on a condition, by the first number that applies,
+  -- DEM-1b: a call is refused only on a condition, by the first number that applies,
   pub refuses : (l : List ByteCall) (c : ByteCall) → CallsBytes l → Refuses (conditionsTo (defined g l) c) (returned f (images f image l) c)
-  -- and then (low byte 0) leaves state and lent buffer unchanged.
+  -- DEM-1c: and then (low byte 0) leaves state and lent buffer unchanged.
   pub turned-back :
       (l : List ByteCall) (c : ByteCall) → CallsBytes l → returned f (images f image l) c % 256 ≡ 0 →
       (imageAfter f (images f image l) c ≡ images f image l) × (bufferAfter f (images f image l) c ≡ bufferIn c)
-  -- The same orders and errors for every event and every device answer: whatever call comes next returns what the definition says,
+  -- DEM-2b: the same orders and errors for every event and every device answer: whatever call comes next returns what the definition says,
   pub returns : (l : List ByteCall) (c : ByteCall) → CallsBytes l → returned f (images f image l) c ≡ returnTo (defined g l) c
   -- and writes it: the notices, and the state that is held but for the power state, which no function tells (Layout.antt has it of ours).
   pub buffers : (l : List ByteCall) (c : ByteCall) → CallsBytes l → bufferAfter f (images f image l) c ≡ bufferTo (defined g l) c
-  -- A packet written is that event's,
+  -- PKT-2: a packet written is that event's,
   pub packet-read :
       (l : List ByteCall) (buffer y : List ℕ) → CallsBytes l → Writes f (images f image l) (writePacket buffer) y →
       (e : EventPacket) × (packetTo (defined g l) ≡ SentPacket.Packet e) × (readPacket y ≡ ReadPacket.Packet (Packet.Event e))
@@ -108,7 +108,7 @@ pub record Serves (f : Functions) (image : List ℕ) (g : Registration) : Type 0
   -- An image stays so many bytes, so that it can be started anew.
   pub size : (l : List ByteCall) → CallsBytes l → length (images f image l) ≡ serviceLength
   pub bytes : (l : List ByteCall) → CallsBytes l → AllBytes (images f image l)
-  -- Demand 3.
+  -- DEM-3: what the desk shows of these calls.
   pub link : (calls : List ByteCall) → CallsBytes calls → (x : List ℕ) → length x ≡ followerLength → Link f image g calls x
 
 -- A start, whatever its arguments.
@@ -121,9 +121,9 @@ pub record Starts (f : Functions) (image : List ℕ) (a : Arguments) : Type 0 wh
   -- done, the demands hold of what it left, whatever the bytes were before.
   pub serves : startRefused image a ≡ 0 → (c : Config) → configOf a ≡ OptionConfig.Some c → Serves f (f .start image a .bytes) (registers a c)
 
--- The desk, whatever bytes have been taken and are: every list of its calls, refused ones included, is as document 01's follower has it.
+-- The desk, whatever bytes have been taken and are: every list of its calls, refused ones included, is as the abstract follower has it.
 pub record Follows (f : Functions) (x : List ℕ) : Type 0 where
-  -- A fresh follower is lost.
+  -- FOL-1: a fresh follower is lost.
   pub fresh-lost : Lost f (desk f x [])
   -- A call is refused only on a condition, by the first number that applies (a packet by the first of 30 to 33 from the left),
   pub refuses : (l : List DeskCall) (c : DeskCall) → DeskBytes l → Refuses (deskConditionsTo (followed l) c) (deskReturned f (desk f x l) c)
@@ -162,18 +162,18 @@ pub record Promise (f : Functions) : Type 0 where
 
 -- What the definition's words come to, of any g that a start accepts; no function is named here.
 pub record Meaning (g : Registration) : Type 0 where
-  -- Every accepted event closes after at most 3 + 4 × chargers device orders,
+  -- DEM-1a: every accepted event closes after at most 3 + 4 × chargers device orders,
   pub bound : (l : List ByteCall) → CallsBytes l → length (ordersOf (started g) [] (callsOf (started g) l)) ≤ 3 + 4 * g .chargers
   -- whatever the devices answer.
   pub closes : (l : List ByteCall) → CallsBytes l → Closes (g .chargers) (defined g l .stand)
-  -- The packet, and the close of a PSU event that a call returns, carry the number of orders given, equal to the length of the definition's list.
+  -- PKT-9: the packet, and the close of a PSU event that a call returns, carry the number of orders given, equal to the length of the definition's list.
   pub counted : (l : List ByteCall) → Counted (defined g l .stand) (defined g l .orders) (ordersOf (started g) [] (callsOf (started g) l))
-  -- The notices of the packet are the definition's, whole, 0 to 4.
+  -- PKT-8: the notices of the packet are the definition's, whole, 0 to 4.
   pub notices :
       (l : List ByteCall) (e : EventPacket) → CallsBytes l → packetTo (defined g l) ≡ SentPacket.Packet e →
       (listed (e .notices) ≡ defined g l .notices) × (length (defined g l .notices) ≤ maxNotices)
-  -- The chosen consumer is none if no port is eligible, else the earliest with most milliwatts, the current one winning ties; and it is held when the event has
-  -- closed without error.
+  -- DEM-2c: the chosen consumer is none if no port is eligible, else the earliest with most milliwatts, the current one winning ties; and it is held when the
+  -- event has closed without error.
   pub choice : Choices g
   -- What is ordered, answered and held is in range.
   pub orders-fit : (l : List ByteCall) → CallsBytes l → OrderFitsAt (defined g l .stand)

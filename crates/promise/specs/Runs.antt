@@ -37,7 +37,7 @@ module _ (f : Functions) (image : List ℕ) (g : Registration) (calls : List Byt
     pub writes : Writes f (images f image before) (writePicture buffer) y
     pub number : defined g before .number ≡ n
 
-  -- what the link hands over: a copy of a packet or picture of the run, or bytes that 30 to 33 turn back
+  -- LNK-3: what the link hands over: a copy of a packet or picture of the run, or bytes that 30 to 33 turn back
   pub data Handed (y : List ℕ) : Type 0 where
     packet : (n : ℕ) → PacketOf n y → Handed y
     picture : (n : ℕ) → PictureOf n y → Handed y
@@ -54,7 +54,7 @@ module _ (f : Functions) (image : List ℕ) (g : Registration) (calls : List Byt
   In y [] = ⊥
   In y (z ∷ l) = (z ≡ y) ⊎ In y l
 
-  -- each event packet from n + 1 to n + k is, without error
+  -- LNK-6: each event packet from n + 1 to n + k is, without error
   abbrev pub Comes : ℕ → ℕ → List (List ℕ) → Type 0
   Comes n k l =
       (j : ℕ) → n < j → j ≤ n + k → (y : List ℕ) × In y l × ((w : PacketOf j y) × (defined g (w .before) .answer ≡ Result.Ok))

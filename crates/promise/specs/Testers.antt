@@ -1,4 +1,4 @@
--- The second programs of document 01, "To the testers": each is ours but for one function, or for the three readers.
+-- TST-4 to TST-11, the testers' second programs: each is ours but for one function, or for the three readers.
 use Prim.Native.Nat.{ℕ, _-_}
 use mathlib.Core.Bool.{cond}
 use mathlib.Core.List.{List, _++_}
@@ -47,39 +47,39 @@ withTake o = changed (functions .open-event) (functions .answer) (functions .wri
 abbrev withReaders : ℕ → ℕ → ℕ → Functions
 withReaders s c t = changed (functions .open-event) (functions .answer) (functions .write-packet) (functions .take) (λ b. s) (λ b. c) (λ b. t)
 
--- "A follower that says lost from the first packet"
+-- TST-4: a follower that says lost from the first packet
 abbrev pub alwaysLost : Functions
 alwaysLost = withReaders lostNumber (consumerNumber OptionAvailableConsumer.None) (trackedNumber none)
 
--- "One that shows pictures and ignores events": a packet of kind 1 leaves the follower as it was
+-- TST-5: one that shows pictures and ignores events: a packet of kind 1 leaves the follower as it was
 abbrev pub deaf : Functions
 deaf = withTake (λ b y. called (functions .take b y .number) (cond (eqb (getD y 0 0) 1) b (functions .take b y .bytes)))
 
--- "A service that gives every order while opening and ignores later answers": a call returns one order, so that what is left of it is that every answer counts
--- as done
+-- TST-6: a service that gives every order while opening and ignores later answers: a call returns one order, so that what is left of it is that every
+-- answer counts as done
 abbrev pub ignoresAnswers : Functions
 ignoresAnswers = withAnswer (λ b psus chargers a. functions .answer b psus chargers 0)
 
--- "A packet whose order count is invented": byte 3, where the orders stand of an event numbered below 128, is 35
+-- TST-7: a packet whose order count is invented: byte 3, where the orders stand of an event numbered below 128, is 35
 abbrev pub inventsCount : Functions
 inventsCount = withPacket (λ b buffer. called (functions .write-packet b buffer .number) (set (functions .write-packet b buffer .bytes) 3 35))
 
--- "A chooser that always names port 0": port 0 is taken to offer what the last port does, and of equals it is the earlier
+-- TST-8: a chooser that always names port 0: port 0 is taken to offer what the last port does, and of equals it is the earlier
 abbrev pub alwaysPort0 : Functions
 alwaysPort0 =
     withOpen
     (λ b psus chargers kind device detail.
     functions .open-event b (drop (length psus - 18) psus ++ drop 18 psus) chargers kind device detail)
 
--- "a service that orders nothing": every event closes at once
+-- TST-9: a service that orders nothing: every event closes at once
 abbrev pub ordersNothing : Functions
 ordersNothing = withOpen (λ b psus chargers kind device detail. called (closedNumber Result.Ok 0) b)
 
--- "an entry that turns every event back", with whatever number
+-- TST-10: an entry that turns every event back, with whatever number
 abbrev pub turnsBack : ℕ → Functions
 turnsBack n = withOpen (λ b psus chargers kind device detail. called (refusedNumber n) b)
 
--- "A full tracked set that stays full after removals": a Detached only updates the consumer
+-- TST-11: a full tracked set that stays full after removals: a Detached only updates the consumer
 abbrev pub staysFull : Functions
 staysFull =
     withOpen (λ b psus chargers kind device detail. functions .open-event b psus chargers (cond {A = ℕ} (eqb kind 4) 1 kind) device detail)

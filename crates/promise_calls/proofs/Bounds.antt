@@ -1,4 +1,5 @@
--- Along a run the number of orders given is that of the machine, which is bounded, and so is what is left of an open event (invariant Bound.antt).
+-- Along a run the number of orders given is that of the machine, which is bounded,
+-- and so is what is left of an open event (promise_invariant Bound.antt).
 use mathlib.Core.Path.{_≡_, refl, sym, ap, _∙_, subst}
 use Prim.Native.Nat.{ℕ, _+_, _*_, _-_, _≤_}
 use mathlib.Core.List.{List}

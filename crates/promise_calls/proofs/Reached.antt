@@ -1,5 +1,5 @@
 -- After every list of calls the image is that of a well-formed service which stands where the definition stands, so that the next call returns and writes
--- what the definition says: from a well-formed service of which run's demands hold.
+-- what the definition says: from a well-formed service of which promise_run's `Demands` hold.
 use mathlib.Core.Path.{_≡_, refl, sym, ap, _∙_, subst}
 use mathlib.Core.List.{List}
 use Prim.Native.Nat.{ℕ, _≤_}

@@ -1,5 +1,5 @@
 -- What a call on an image returns and leaves in its buffer is what the definition says: the image is read as the service, which stands where the
--- definition stands (run Returns.antt).
+-- definition stands (promise_run Returns.antt).
 use mathlib.Core.Path.{_≡_, refl, ap, _∙_}
 use mathlib.Core.Bool.{Bool, true, false, cond}
 use mathlib.Core.List.{List}

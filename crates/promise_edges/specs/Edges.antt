@@ -1,5 +1,5 @@
--- The edges of document 01 as theorems about the definitions: of the contracts, of the event (abstract_policy specs/Edges.antt; the service follows it, crate
--- interaction) and of `follow`. The record is the table, `edges` its proof.
+-- EDG-13: the edges as theorems about the definitions: of the contracts, of the event (abstract_policy specs/Edges.antt; the service follows it,
+-- machine_follows) and of `follow`. The record is the table, `edges` its proof.
 use mathlib.Core.Path.{_≡_, refl}
 use mathlib.Core.Bool.{Bool, true, false}
 use mathlib.Core.List.{List, [], _∷_, _++_}
@@ -69,45 +69,45 @@ exampleOutput =
     ++ (53 ∷ 32 ∷ 45 ∷ 32 ∷ 108 ∷ 111 ∷ 115 ∷ 116 ∷ 32 ∷ 45 ∷ 32 ∷ 45 ∷ 10 ∷ [])))))
 
 pub record Edges : Type 0 where
-  -- P1: 5,000 mV, 3,000 mA is 15,000 mW; 999 mV, 1 mA is 0; 65,535 twice is 4,294,836
+  -- EDG-1 (P1): 5,000 mV, 3,000 mA is 15,000 mW; 999 mV, 1 mA is 0; 65,535 twice is 4,294,836
   pub P1-type-c : mW 5000 3000 ≡ 15000
   pub P1-rounded-down : mW 999 1 ≡ 0
   pub P1-most : mW 65535 65535 ≡ 4294836
-  -- P2: no capability anywhere: none, whatever the minimum and the current consumer
+  -- EDG-2 (P2): no capability anywhere: none, whatever the minimum and the current consumer
   pub P2 : (minimum : OptionMilliwatts) (current : OptionAvailableConsumer) (psus : List State) (n : ℕ)
       → ((p : ℕ) → p < n → psuAt psus p .«consumer_capability» ≡ OptionConsumerPowerCapability.None)
       → OptionAvailableConsumer.None ≡ bestOf minimum current psus n
-  -- P3: minimum 7,500: 7,500 is eligible, 7,499 not
+  -- EDG-3 (P3): minimum 7,500: 7,500 is eligible, 7,499 not
   pub P3-met : eligible (OptionMilliwatts.Some 7500) (offering (offer 5000 1500)) ≡ OptionConsumerPowerCapability.Some (offer 5000 1500)
   pub P3-missed : eligible (OptionMilliwatts.Some 7500) (offering (offer 7499 1000)) ≡ OptionConsumerPowerCapability.None
-  -- P4: ports 0 and 2 at 15,000: current 2 gives 2, no current gives 0
+  -- EDG-4 (P4): ports 0 and 2 at 15,000: current 2 gives 2, no current gives 0
   pub P4-current : bestOf OptionMilliwatts.None (available 2 (offer 5000 3000)) (offering (offer 15000 1000) ∷ nothing ∷ offering (offer 5000 3000) ∷ []) 3
       ≡ available 2 (offer 5000 3000)
   pub P4-none : bestOf OptionMilliwatts.None OptionAvailableConsumer.None (offering (offer 15000 1000) ∷ nothing ∷ offering (offer 5000 3000) ∷ []) 3
       ≡ available 0 (offer 15000 1000)
-  -- P5: total 15,000 Unlimited, 15,001 Limited
+  -- EDG-5 (P5): total 15,000 Unlimited, 15,001 Limited
   pub P5-unlimited : powerStateOf rustDefault 15000 ≡ PowerState.Unlimited
   pub P5-limited : powerStateOf rustDefault 15001 ≡ PowerState.Limited
-  -- P6, P7, P10 and three more: what an event does
+  -- EDG-6 (P6), EDG-7 (P7), EDG-10 (P10) and three more: what an event does
   pub events : EventEdges
-  -- P8: attach in Idle is InvalidState (expected {Detached}, bit 1; actual Idle), and the record stays Idle
+  -- EDG-8 (P8): attach in Idle is InvalidState (expected {Detached}, bit 1; actual Idle), and the record stays Idle
   pub P8 : (c : OptionConsumerPowerCapability) (r : OptionProviderPowerCapability)
       → attachOf (psu PsuState.Idle c r) ≡ record { result = Result.Err (invalidState 1 StateKind.Idle); state = psu PsuState.Idle c r }
-  -- P9: an equal request on a Detached record is no error
+  -- EDG-9 (P9): an equal request on a Detached record is no error
   pub P9 : (c : OptionConsumerPowerCapability) (r : OptionProviderPowerCapability)
       → updateRequestedOf (psu PsuState.Detached c r) r ≡ record { result = Result.Ok; state = psu PsuState.Detached c r }
-  -- Mistakes that look like repairs: a Limited grant is not cut to the request by P7, an earlier port wins on equal mW by P4-none, and
-  -- a port in ConnectedProvider is chosen as any other
+  -- MIS-1: a port in ConnectedProvider is chosen as any other. (MIS-3, a Limited grant cut to the request, is excluded by P7, MIS-5, a later
+  -- port on equal mW, by P4-none.)
   pub chosen-while-providing :
       bestOf OptionMilliwatts.None OptionAvailableConsumer.None
       (offering (offer 5000 1500) ∷ psu (PsuState.ConnectedProvider (contract 5000 1500)) (OptionConsumerPowerCapability.Some (offer 5000 3000)) OptionProviderPowerCapability.None ∷ [])
       2
       ≡ available 1 (offer 5000 3000)
-  -- P11: 128 is 80 01, 300 is AC 02, 80 00 is refused 31, whatever the limit and the rest
+  -- EDG-11 (P11): 128 is 80 01, 300 is AC 02, 80 00 is refused 31, whatever the limit and the rest
   pub P11-128 : leb128 128 ≡ 0x80 ∷ 0x01 ∷ []
   pub P11-300 : leb128 300 ≡ 0xAC ∷ 0x02 ∷ []
   pub P11-refused : (limit : ℕ) (rest : List ℕ) → readNumber limit (0x80 ∷ 0x00 ∷ rest) ≡ ReadNumber.Refused 31
-  -- P12: the five takes of the example: n, state, port and mW after each; and the bytes that `follow` writes for its input
+  -- EDG-12 (P12): the five takes of the example: n, state, port and mW after each; and the bytes that `follow` writes for its input
   pub P12 : taking follower.fresh (picture0 ∷ event2 ∷ event1 ∷ event1 ∷ event3 ∷ [])
       ≡ line (OptionNumber.Some 0) shown.State.Level OptionNumber.None OptionNumber.None
       ∷ line (OptionNumber.Some 0) shown.State.Waiting OptionNumber.None OptionNumber.None

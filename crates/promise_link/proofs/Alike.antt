@@ -1,5 +1,5 @@
--- The code's follower does what document 01's does: in turn, the ring's next place is the list's first packet; else a take changes the list at one number, and
--- a picture keeps what is above it. Over lists, take by take.
+-- The code's follower does what the abstract one does: in turn, the ring's next place is the list's first packet; else a take changes the list at one number,
+-- and a picture keeps what is above it. Over lists, take by take.
 use mathlib.Core.Path.{_≡_, refl, ap, sym, _∙_, subst}
 use mathlib.Core.Bool.{Bool, true, false, cond, _&&_}
 use mathlib.Core.List.{List, [], _∷_, _++_}

@@ -1,5 +1,5 @@
--- Demand 3: what a list of takes keeps (Lists.antt), read off at its end. Its last sentence is the floor being the greatest number met; the
--- one on n + k holds because what was met above what is shown is held, and the next is never left waiting.
+-- DEM-3: what a list of takes keeps (Lists.antt), read off at its end. DEM-3c is the floor being the greatest number met; DEM-3b
+-- holds because what was met above what is shown is held, and the next is never left waiting.
 use mathlib.Core.Path.{_≡_, refl, ap, sym, _∙_, subst}
 use mathlib.Core.Bool.{Bool, true, false}
 use mathlib.Core.List.{List, [], _∷_, _++_}

@@ -1,5 +1,5 @@
--- Document 01's list of held packets and the ring's, number by number: a packet held with others stands where the ring's place for it is read, and those above a
--- picture's number are those that the ring keeps.
+-- The abstract follower's list of held packets and the ring's, number by number: a packet held with others stands where the ring's place for it is read, and
+-- those above a picture's number are those that the ring keeps.
 use mathlib.Core.Path.{_≡_, refl, ap, sym, _∙_, subst}
 use mathlib.Core.Bool.{Bool, true, false, cond}
 use mathlib.Core.List.{List, [], _∷_, _++_}

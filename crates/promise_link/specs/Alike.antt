@@ -1,5 +1,5 @@
--- The follower of the code, whose packets wait in a ring of eight places, and document 01's, whose packets wait in a list: they do and say the same.
--- Proved in proofs/Alike.antt.
+-- The follower of the code, whose packets wait in a ring of eight places, and the abstract
+-- one, whose packets wait in a list: they do and say the same. Proved in proofs/Alike.antt.
 use Prim.Native.Nat.{ℕ, zero, suc, _+_, _≤_}
 use mathlib.Core.Bool.{cond}
 use mathlib.Core.List.{List, [], _∷_, _++_}
@@ -30,7 +30,7 @@ unfoldable pub heldFrom : Held → ℕ → ℕ → List EventPacket
 heldFrom h m zero = []
 heldFrom h m (suc k) = one h m ++ heldFrom h (m + 1) k
 
--- a follower of the code, as document 01 has it: what waits are the packets of n + 2 to n + 8
+-- a follower of the code, seen as the abstract one: what waits are the packets of n + 2 to n + 8
 abbrev pub seenAt : Shown → Held → paper.Follower
 seenAt (Shown.Lost floor) h = paper.lost floor
 seenAt (Shown.Picture s) h = paper.showing (s .number) (s .display) (heldFrom h (s .number + 2) 7)

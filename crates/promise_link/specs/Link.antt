@@ -35,15 +35,15 @@ NoLower n l = (e : EventPacket) → Met (Packet.Event e) l → e .number ≤ n
 pub record Demand3 (source : Source) : Type 0 where
   -- a fresh follower is lost
   pub fresh-lost : FollowerLost (followerAfter [])
-  -- the follower says lost, or shows the n of an event that has closed (0: the start), with exactly what was held there
+  -- DEM-3a: the follower says lost, or shows the n of an event that has closed (0: the start), with exactly what was held there
   pub a : (l : List (List ℕ)) → AllCarried source l → FollowerLost (followerAfter l) ⊎ ((n : ℕ) × source .Closed n × FollowerShows (followerAfter l) n (source .held n))
-  -- if it shows n and then each event packet n + 1 to n + k comes, in any order, k ≤ window, all without error, and nothing above n + k is
-  -- anywhere among the takes, it shows n + k
+  -- DEM-3b: if it shows n and then each event packet n + 1 to n + k comes, in any order, k ≤ window, all without error, and nothing above
+  -- n + k is anywhere among the takes, it shows n + k
   pub b :
       (before later : List (List ℕ)) (n k : ℕ) (d : Display) → AllCarried source (before ++ later) → FollowerShows (followerAfter before) n d → k ≤ window →
       EventsCome n k later → NoneAbove (n + k) (before ++ later) →
       FollowerShows (followerAfter (before ++ later)) (n + k) (source .held (n + k))
-  -- lost, it shows a picture exactly when that is numbered no lower than every event packet met before
+  -- DEM-3c: lost, it shows a picture exactly when that is numbered no lower than every event packet met before
   pub c :
       (before : List (List ℕ)) (p : Picture) → AllCarried source before → source .Written (Packet.Picture p) → FollowerLost (followerAfter before) →
       (NoLower (p .number) before → FollowerShows (followerAfter (before ++ (packetBytes (Packet.Picture p) ∷ []))) (p .number) (p .display))

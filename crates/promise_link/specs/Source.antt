@@ -20,7 +20,7 @@ pub record Source : Type 1 where
   pub Written : Packet → Type 0
   -- what is written is of such a number
   pub closed : (p : Packet) → Written p → Closed (numberIn p)
-  -- each has its fields within what document 01 lays out
+  -- each has its fields within what is laid out (PKT)
   pub fits : (p : Packet) → Written p → wellFormed p ≡ true
   -- a picture shows what is held at its number
   pub picture : (p : Picture) → Written (Packet.Picture p) → p .display ≡ held (p .number)

@@ -1,5 +1,5 @@
--- Demand 1 over whole runs: in every run the service stays within what a start registers, so that each event that it accepts is bounded and
--- leaves its packet (interaction Serves.antt); and a call that is turned back leaves the service as it was.
+-- DEM-1a over whole runs: in every run the service stays within what a start registers, so that each event that it accepts is bounded and
+-- leaves its packet (machine_follows Serves.antt); and a call that is turned back leaves the service as it was.
 use mathlib.Core.Path.{_≡_, refl, sym, ap, _∙_, subst}
 use mathlib.Core.Bool.{false}
 use mathlib.Core.List.{List, [], _∷_}

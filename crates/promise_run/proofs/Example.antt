@@ -136,7 +136,7 @@ pub shows-four : takesBytes fresh (mixed ++ (event three ∷ picture three ∷ e
 unfolding bytes.capabilityBytes bytes.contractBytes bytes.noticeBytes bytes.eventBytes bytes.consumerBytes bytes.portsBytes bytes.pictureBytes number.leb128 number.readNumber parser.field parser.number wire.capability wire.consumer wire.unconstrained wire.consumerDisconnected wire.consumerConnected wire.providerDisconnected wire.providerConnected wire.unconstrainedChanged wire.noticeOf wire.notice wire.eventNotices wire.eventAfter wire.event wire.pictureAfter wire.picture wire.packetOf wire.packet held.noneHeld held.greatest held.above follower.inTurn policy.updateUnconstrainedState policy.attachCharger policy.postConsumerConnected policy.detachCharger policy.disconnectChargers policy.disconnectCurrent policy.connectConsumer policy.connectNewConsumer policy.connectBest policy.updateCurrentConsumer policy.postProviderConnected policy.provide policy.connectProvider policy.removeProvider policy.postProviderRemoved policy.processPsuEvent
 shows-four = refl
 
--- the premises of demand 3's second conclusion hold of these takes, with n = 0 and k = 2
+-- the premises of DEM-3b hold of these takes, with n = 0 and k = 2
 
 reads-start : readPacket (picture []) ≡ ReadPacket.Packet (Packet.Picture (pictureOf start))
 unfolding bytes.capabilityBytes bytes.contractBytes bytes.noticeBytes bytes.eventBytes bytes.consumerBytes bytes.portsBytes bytes.pictureBytes number.leb128 number.readNumber parser.field parser.number wire.capability wire.consumer wire.unconstrained wire.consumerDisconnected wire.consumerConnected wire.providerDisconnected wire.providerConnected wire.unconstrainedChanged wire.noticeOf wire.notice wire.eventNotices wire.eventAfter wire.event wire.pictureAfter wire.picture wire.packetOf wire.packet held.noneHeld held.greatest held.above follower.inTurn policy.updateUnconstrainedState policy.attachCharger policy.postConsumerConnected policy.detachCharger policy.disconnectChargers policy.disconnectCurrent policy.connectConsumer policy.connectNewConsumer policy.connectBest policy.updateCurrentConsumer policy.postProviderConnected policy.provide policy.connectProvider policy.removeProvider policy.postProviderRemoved policy.processPsuEvent

@@ -1,4 +1,4 @@
--- Demands 1 to 3 for a run of the service: machine and definition go through it together (Returns.antt), the run is a writer on the link
+-- DEM-1 to DEM-3 for a run of the service: machine and definition go through it together (Returns.antt), the run is a writer on the link
 -- (Writer.antt), and the link's theorem holds for every writer. An accepted start is a fresh service with its figures in their types
 -- (Starts.antt), where machine and definition begin alike.
 use mathlib.Core.Path.{_≡_, refl, sym, ap, _∙_, subst}

@@ -1,5 +1,5 @@
 -- The machine and the definition go through a run together: a call that is turned back changes neither, an accepted one leads both to the
--- same rest (interaction Follows.antt), and at each close the notices lead from what was held before (abstract_policy Carries.antt).
+-- same rest (machine_follows Follows.antt), and at each close the notices lead from what was held before (abstract_policy Carries.antt).
 use mathlib.Core.Path.{_≡_, refl, sym, ap, _∙_, subst}
 use mathlib.Core.Bool.{Bool, true, false, cond}
 use mathlib.Core.List.{List, []}

@@ -91,7 +91,7 @@ start-fits t uv ua lv la presence minimum ports chargers s e =
     accepted ports chargers s (configFrom t uv ua lv la presence minimum) (config-fits t uv ua lv la presence minimum) (ltb 16 ports) refl (ltb 8 chargers) refl
     (subst (ServiceIs s) (sym e) refl)
 
--- after every start that is accepted, what is chosen is demand 2's
+-- after every start that is accepted, what is chosen is what DEM-2c says
 pub start-chooses : (threshold unlimited-mv unlimited-ma limited-mv limited-ma presence minimum ports chargers : ℕ) (s : Service) →
     startOf (configFrom threshold unlimited-mv unlimited-ma limited-mv limited-ma presence minimum) ports chargers ≡ Started.Service s →
     Choices (s .registration)

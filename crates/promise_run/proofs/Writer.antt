@@ -281,7 +281,7 @@ module _ (K : ℕ → EventPacket) where
       wrote-one l (afterCall s c) (t .heldₜ) (t .beforeₜ) p (cf .1) (t .runs) (keeps-on s held (t .heldₜ) before (t .beforeₜ) c l (t .moves) k) z)
       w
 
--- each packet and picture has its fields within what document 01 lays out
+-- each packet and picture has its fields within what is laid out (PKT)
 
 padded-with : (p : ProviderNotice) (d : DisconnectedNotice) (c : OptionAvailableConsumer) (u : UnconstrainedNotice) →
     display.padded (noticesOf (noticesWith p d c u)) ≡ true

@@ -25,7 +25,7 @@ use Rattle.promise_link.specs.Link.{Demand3}
 use Rattle.promise_link.specs.Source.{Source}
 use Rattle.promise_run.specs.Run.{HasSent, services, CallsFit}
 
--- demand 1: each event closes after at most 3 + 4 × chargers orders
+-- DEM-1a: each event closes after at most 3 + 4 × chargers orders
 
 -- what an event that has closed leaves: its packet, with the definition's answer, notices and number of orders, and what is held
 pub record Packs (s : Service) (a : Result) (h : Held) (n given : ℕ) : Type 0 where
@@ -53,7 +53,7 @@ pub record Bounded (s : Service) : Type 0 where
       fedBy (eventAt s kind device detail r) l ≡ done a h →
       Packs (serviceAfter (openOf s kind device detail r .service) l) a h (suc (s .number)) (length (ordersBy (eventAt s kind device detail r) l))
 
--- demand 2: the service is where the definition is, and whatever call comes next returns what the definition says
+-- DEM-2b: the service is where the definition is, and whatever call comes next returns what the definition says
 
 -- what is left of an event, as a stand after n orders
 abbrev pub standOf : ℕ → Interaction → Stand
@@ -79,7 +79,7 @@ pub record Equal (s : Service) (p : Policy) : Type 0 where
   pub packet : sendPacket s ≡ packetTo p
   pub picture : sendPicture s ≡ pictureTo p
 
--- demand 3: the run is a writer on the link; what is held at each number is the definition's, what is written is what the calls write
+-- DEM-3, LNK-2: the run is a writer on the link; what is held at each number is the definition's, what is written is what the calls write
 pub record OnLink (s : Service) (calls : List Call) : Type 1 where
   pub source : Source
   pub held : (n : ℕ) → source .held n ≡ heldAt (started (s .registration)) calls n

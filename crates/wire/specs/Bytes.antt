@@ -1,5 +1,5 @@
--- What is written: the bytes of each field in its place, at most 64 for fields within their ranges (proofs/Lengths.antt). It is total: a
--- field out of its range is written as it stands.
+-- What is written (PKT-8 to PKT-16): the bytes of each field in its place, at most 64 for fields within their ranges
+-- (proofs/Lengths.antt). It is total: a field out of its range is written as it stands.
 use Prim.Native.Nat.{ℕ, zero, suc, _/_, _%_}
 use mathlib.Core.Bool.{cond}
 use mathlib.Core.List.{List, [], _∷_, _++_}

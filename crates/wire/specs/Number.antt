@@ -1,4 +1,4 @@
--- Unsigned LEB128 in its shortest form: the base-128 digits, lowest first, with 128 added to all but the last.
+-- PKT-6: unsigned LEB128 in its shortest form: the base-128 digits, lowest first, with 128 added to all but the last.
 use Prim.Native.Nat.{ℕ, zero, suc, _+_, _-_, _*_, _/_, _%_}
 use mathlib.Core.Bool.{cond}
 use mathlib.Core.List.{List, [], _∷_}
@@ -22,7 +22,7 @@ digitBefore d (ReadNumber.Refused n) = ReadNumber.Refused n
 digitBefore d (ReadNumber.Number v used) =
     cond (eqb v 0) (ReadNumber.Refused 31) (ReadNumber.Number (d + v * 128) (suc used))
 
--- a last byte is below 128; at most k bytes stand before it
+-- a last byte is below 128; at most k bytes stand before it (REF-5)
 abbrev pub digitsRead : ℕ → List ℕ → ReadNumber
 digitsRead k [] = ReadNumber.Refused 30
 digitsRead zero (b ∷ s) = cond (ltb b 128) (ReadNumber.Number b 1) (ReadNumber.Refused 31)
@@ -32,7 +32,7 @@ abbrev pub within : ℕ → ReadNumber → ReadNumber
 within limit (ReadNumber.Refused n) = ReadNumber.Refused n
 within limit (ReadNumber.Number v used) = cond (leb v limit) (ReadNumber.Number v used) (ReadNumber.Refused 31)
 
--- the limit is looked at after the last byte
+-- REF-4: the limit is looked at after the last byte
 unfoldable pub readNumber : ℕ → List ℕ → ReadNumber
 readNumber limit s = within limit (digitsRead 4 s)
 

@@ -1,4 +1,4 @@
--- Event packet and full picture of document 01, field by field from the left.
+-- Event packet (PKT-8) and full picture (PKT-16), field by field from the left.
 use Prim.Native.Nat.{ℕ, zero, suc, _+_, _^_}
 use mathlib.Core.Bool.{_&&_}
 use mathlib.Core.List.{List, [], _∷_}
@@ -61,6 +61,7 @@ unconstrained = do
 
 -- the notices, by their kinds
 
+-- PKT-10: port, reason
 unfoldable pub consumerDisconnected : Parser Event
 consumerDisconnected = do
   port ← field 15
@@ -68,16 +69,19 @@ consumerDisconnected = do
   reason ← reasonGiven (disconnectFrom b)
   done (Event.ConsumerDisconnected port reason)
 
+-- PKT-11: port, mV, mA, flags
 unfoldable pub consumerConnected : Parser Event
 consumerConnected = do
   c ← consumer
   done (Event.ConsumerConnected (c .psu) (c .«consumer_power_capability»))
 
+-- PKT-12: port
 unfoldable pub providerDisconnected : Parser Event
 providerDisconnected = do
   port ← field 15
   done (Event.ProviderDisconnected port)
 
+-- PKT-13: port, mV, mA, flags
 unfoldable pub providerConnected : Parser Event
 providerConnected = do
   port ← field 15
@@ -86,6 +90,7 @@ providerConnected = do
   f ← providerFlagsGiven (providerFlagsFrom b)
   done (Event.ProviderConnected port (record { capability = c; flags = f }))
 
+-- PKT-14: unconstrained, available
 unfoldable pub unconstrainedChanged : Parser Event
 unconstrainedChanged = do
   u ← unconstrained
@@ -109,14 +114,14 @@ notice = do
   kind ← byte
   noticeOf kind
 
--- so many more notices, each from the rest after the one before it
+-- PKT-17, FRM-6: so many more notices, each from the rest after the one before it
 abbrev pub notices : ℕ → Notices → Parser Notices
 notices zero l = done l
 notices (suc k) l = do
   e ← notice
   notices k (pushed l e)
 
--- so many more tracked ports, each at least `low` and then above the one before it
+-- REF-32: so many more tracked ports, each at least `low` and then above the one before it
 abbrev pub ports : ℕ → ℕ → ℕ → Parser Providers
 ports zero low mask = done (record { mask = mask })
 ports (suc k) low mask = do
@@ -124,7 +129,7 @@ ports (suc k) low mask = do
   holds (leb low p && leb p 15)
   ports k (suc p) (2 ^ p + mask)
 
--- an event packet: after its orders, after its number, after its kind
+-- PKT-8, an event packet: after its orders, after its number, after its kind
 
 unfoldable pub eventNotices : ℕ → ℕ → ℕ → Parser Packet
 eventNotices n answer orders = do
@@ -152,7 +157,7 @@ consumerGiven (suc n) = do
   c ← consumer
   done (OptionAvailableConsumer.Some c)
 
--- a full picture: after its consumer, after its kind
+-- PKT-16, a full picture: after its consumer, after its kind
 
 unfoldable pub pictureAfter : ℕ → OptionAvailableConsumer → Parser Packet
 pictureAfter n c = do

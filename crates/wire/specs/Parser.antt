@@ -1,4 +1,5 @@
--- A reading from the left: a refusal's number, or a value and the rest of the bytes. What is met first is what is given.
+-- REF-3: a reading from the left: a refusal's number, or a value
+-- and the rest of the bytes. What is met first is what is given.
 use Prim.Native.Nat.{ℕ}
 use mathlib.Core.Bool.{Bool, cond}
 use mathlib.Core.List.{List, [], _∷_}
@@ -29,24 +30,24 @@ _>>_ p q s = then (p s) (λ a. q)
 abbrev pub done : {A : Type 0} → A → Parser A
 done a s = parsed a s
 
--- 32: not as laid out
+-- REF-32: not as laid out
 abbrev pub wrong : {A : Type 0} → Parser A
 wrong s = refused 32
 
 abbrev pub holds : Bool → Parser (Unit {0})
 holds t s = cond t (parsed tt s) (refused 32)
 
--- 30: cut short
+-- REF-30: cut short
 abbrev pub byte : Parser ℕ
 byte [] = refused 30
 byte (b ∷ s) = parsed b s
 
--- 33: left over
+-- REF-33: left over
 abbrev pub end : {A : Type 0} → A → Parser A
 end a [] = parsed a []
 end a (b ∷ s) = refused 33
 
--- a byte of at most so much
+-- PKT-7: a byte of at most so much
 unfoldable pub field : ℕ → Parser ℕ
 field most = do
   b ← byte
@@ -57,6 +58,6 @@ abbrev pub numberRest : List ℕ → ReadNumber → Parsed ℕ
 numberRest s (ReadNumber.Refused n) = refused n
 numberRest s (ReadNumber.Number v used) = parsed v (drop used s)
 
--- 30 and 31
+-- REF-30 and REF-31
 unfoldable pub number : ℕ → Parser ℕ
 number limit s = numberRest s (readNumber limit s)

@@ -84,6 +84,6 @@ abbrev pub packetRead : Parsed Packet → ReadPacket
 packetRead (refused n) = ReadPacket.Refused n
 packetRead (parsed p s) = ReadPacket.Packet p
 
--- the packet of all the bytes, or what is met first from the left
+-- REF-3: the packet of all the bytes, or what is met first from the left
 abbrev pub readPacket : List ℕ → ReadPacket
 readPacket s = packetRead (packet s)

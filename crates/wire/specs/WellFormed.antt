@@ -1,5 +1,5 @@
--- The packets that the reader accepts: each field within what document 01 lays out, and notices in their one form. A test, so that it can
--- be decided.
+-- The packets that the reader accepts: each field within what is laid out (PKT-8
+-- to PKT-16), and notices in their one form. A test, so that it can be decided.
 use Prim.Native.Nat.{ℕ}
 use mathlib.Core.Bool.{Bool, true, _&&_}
 use mathlib.Core.List.{List, [], _∷_}

@@ -1,4 +1,5 @@
--- Framing by length: length# (1 to 64), packet, repeated. The length is judged before the bytes after it are counted.
+-- PRG-1: framing by length: length# (1 to 64), packet, repeated.
+-- The length is judged before the bytes after it are counted.
 use Prim.Native.Nat.{ℕ, _+_}
 use mathlib.Core.Bool.{cond}
 use mathlib.Core.List.{List}
@@ -25,7 +26,7 @@ framedAt have (ReadNumber.Number v used) = sized have used v
 unfoldable pub framed : List ℕ → Framed
 framed s = cond (eqb (length s) 0) Framed.Empty (framedAt (length s) (readNumber 4294967295 s))
 
--- document 01's number for each case; 0 for none
+-- PRG-5: the number for each case; 0 for none
 abbrev pub refusalOf : Framed → ℕ
 refusalOf Framed.Empty = 0
 refusalOf Framed.Cut = 30

@@ -1,4 +1,4 @@
-// Packets in a stream: length# (1 to 64), packet, repeated (document 01, program `follow`).
+// Packets in a stream: length# (1 to 64), packet, repeated (PRG-1).
 use power_policy_interface::limits::BUFFER;
 use power_policy_interface::limits::LARGEST;
 use wire::number;

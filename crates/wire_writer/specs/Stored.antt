@@ -8,7 +8,7 @@ use lib.Seq.{sets}
 use Rattle.power_policy_interface.specs.Limits.{bufferLength}
 use Rattle.wire_writer.specs.declared.Written.{Written}
 
--- 29: a buffer under 64 bytes is left as it was; else the bytes stand at its front, and those past them stay
+-- REF-29: a buffer under 64 bytes is left as it was; else the bytes stand at its front, and those past them stay
 
 abbrev pub stored : List ℕ → List ℕ → List ℕ
 stored bytes out = cond (ltb (length out) bufferLength) out (sets out 0 bytes)

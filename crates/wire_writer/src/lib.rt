@@ -1,4 +1,4 @@
-// Event packets and full pictures written as bytes (document 01, "Packets and follower"), which `wire` reads.
+// Event packets and full pictures written as bytes (PKT-6 to PKT-16), which `wire` reads.
 use interface_display::OptionAvailableConsumer;
 use interface_display::notices::Notices;
 use interface_display::packet::EventPacket;

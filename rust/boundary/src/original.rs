@@ -145,7 +145,7 @@ impl<'a> Close<'a> {
         packet
     }
 
-    /// The packet that document 01 gives it.
+    /// Its packet (PKT-8).
     fn packet(&self, event: u32) -> Vec<u8> {
         let mut packet = vec![1];
         packet.extend(number(event));

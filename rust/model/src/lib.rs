@@ -1,5 +1,5 @@
 //! A plain model of the link: numbers, packets, pictures, the follower and the
-//! `follow` program. It is written from document 01 alone and is used to judge
+//! `follow` program. It is written from the requirements alone and is used to judge
 //! another implementation, so it prefers the plainest form over the fastest.
 
 pub mod follower;

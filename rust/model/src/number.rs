@@ -1,5 +1,5 @@
-//! Numbers marked # in document 01: groups of seven bits, lowest first, top bit
-//! set on all but the last, shortest form.
+//! Numbers marked # (PKT-6): groups of seven bits, lowest first, top bit set on
+//! all but the last, shortest form.
 
 use crate::{CUT, NUMBER};
 

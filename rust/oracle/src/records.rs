@@ -1,8 +1,8 @@
-//! Vectors of bytes that may be no record: what document 01 accepts.
+//! Vectors of bytes that may be no record: what is accepted (SHP-8 to SHP-10, REF-22).
 //!
 //! The layout is that of [`crate::interface`]; the bytes to be read stand in the place of the record
-//! before. The original has no byte records, so it is not asked: this is a reading of the document
-//! in terms of bytes alone. The first byte of every result is 1 accepted or 0 refused; what is refused
+//! before. The original has no byte records, so it is not asked: this is a reading of the
+//! requirements in terms of bytes alone. The first byte of every result is 1 accepted or 0 refused; what is refused
 //! leaves all else zero.
 //!
 //! | call | input | result, record afterwards |

@@ -1,5 +1,5 @@
 //! Streams of the service: read back from the layout alone, and replayed by a second reading of
-//! document 01 in terms of bytes alone.
+//! the requirements in terms of bytes alone.
 
 use std::collections::BTreeSet;
 
@@ -338,7 +338,7 @@ fn provided(port: &Psu) -> u32 {
     }
 }
 
-/// A replay of one event by document 01.
+/// A replay of one event by the requirements.
 struct Replay<'a> {
     start: &'a Start,
     held: &'a mut Held,

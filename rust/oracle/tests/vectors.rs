@@ -1,5 +1,5 @@
-//! The vectors of the interface: what they cover, and a second reading of the papers in terms of
-//! bytes alone.
+//! The vectors of the interface: what they cover, and a second reading of the requirements in
+//! terms of bytes alone.
 
 use std::collections::{BTreeMap, BTreeSet};
 
@@ -23,7 +23,7 @@ fn parts(vector: &Vector) -> Parts<'_> {
     }
 }
 
-/// Result and record afterwards, by the papers.
+/// Result and record afterwards, by LEA-1 to LEA-4.
 fn expected(vector: &Vector) -> ([u8; 6], [u8; 18]) {
     const DETACHED: u8 = 1;
     const IDLE: u8 = 2;

@@ -1,6 +1,6 @@
 //! The C functions of the power policy in plain Rust, on the images of docs/STATE.md.
 //!
-//! Written from document 01 and docs/STATE.md alone, to compare with: by results, by bytes and by speed.
+//! Written from the requirements and docs/STATE.md alone, to compare with: by results, by bytes and by speed.
 //! Each function takes what the C function of its name takes, a slice where that has a pointer and a length, and
 //! returns the same 64-bit number.
 

@@ -1,4 +1,4 @@
-//! The edges of document 01, through the bytes. P8 and P9 are transitions of a device's record, which no C function makes.
+//! The edges (EDG), through the bytes. P8 and P9 are transitions of a device's record, which no C function makes.
 
 const IMAGE: usize = plain::SERVICE_IMAGE;
 

@@ -1,4 +1,4 @@
-// Events broadcast from the service (service/event.rs). Document 01 calls one a notice.
+// Events broadcast from the service (service/event.rs). In packets one is a notice (PKT-10 to PKT-14).
 use crate::capability::ConsumerPowerCapability;
 use crate::capability::DisconnectFlags;
 use crate::capability::ProviderPowerCapability;
