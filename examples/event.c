@@ -2,7 +2,6 @@
  * and the supply is detached while a charger does not answer. Prints what rust/power_policy/examples/event.rs prints. */
 #include <stdio.h>
 #include <stdlib.h>
-#include <string.h>
 
 #include "power_policy.h"
 
@@ -11,80 +10,94 @@
 
 static uint8_t service[POWER_POLICY_IMAGE];
 static uint8_t follower[POWER_POLICY_FOLLOWER_IMAGE];
-static uint8_t psus[PORTS][POWER_POLICY_PSU_RECORD];
-static uint8_t chargers[CHARGERS][POWER_POLICY_CHARGER_RECORD];
+static power_policy_psu psus[PORTS];
+static power_policy_charger chargers[CHARGERS];
 static int deaf; /* whether chargers no longer answer */
 
 /* Stops at a refusal. */
 static uint64_t check(uint64_t result)
 {
-    if (power_policy_outcome(result) == POWER_POLICY_OUTCOME_REFUSED) {
-        printf("refused %u\n", power_policy_refusal(result));
+    unsigned refusal = power_policy_refusal(result);
+
+    if (refusal != 0) {
+        printf("refused with %u: %s\n", refusal, power_policy_refusal_text(refusal));
         exit(1);
     }
     return result;
 }
 
-static void put_capability(uint8_t *at, unsigned mv, unsigned ma, unsigned flags)
+static void print_capability(power_policy_capability capability)
 {
-    at[0] = (uint8_t)(mv & 0xff);
-    at[1] = (uint8_t)(mv >> 8);
-    at[2] = (uint8_t)(ma & 0xff);
-    at[3] = (uint8_t)(ma >> 8);
-    at[4] = (uint8_t)flags;
+    printf(", %u mV, %u mA, flags %u\n", (unsigned)capability.mv, (unsigned)capability.ma, (unsigned)capability.flags);
 }
 
-static void print_capability(uint64_t order)
+/* Does an order to a port, as a device that obeys. */
+static uint32_t perform_psu(uint64_t order, unsigned port)
 {
-    printf(", %u mV, %u mA, flags %u\n", power_policy_mv(order), power_policy_ma(order), power_policy_flags(order));
-}
-
-/* Does an order, as a device that obeys, and gives the answer. */
-static uint32_t perform(uint64_t order)
-{
-    unsigned device = power_policy_order_device(order);
-    uint8_t *psu = device < PORTS ? psus[device] : NULL;
-    uint8_t *charger = device < CHARGERS ? chargers[device] : NULL;
-    uint32_t charger_answer = deaf ? POWER_POLICY_ANSWER_CHARGER : POWER_POLICY_ANSWER_DONE;
+    power_policy_psu *psu = &psus[port];
+    power_policy_capability capability = power_policy_result_capability(order);
 
     switch (power_policy_order_kind(order)) {
     case POWER_POLICY_ORDER_DISCONNECT:
-        printf("  order: disconnect port %u\n", device);
-        psu[0] = POWER_POLICY_PSU_IDLE;
-        memset(psu + 1, 0, 5);
+        printf("  order: disconnect port %u\n", port);
+        psu->state = POWER_POLICY_PSU_IDLE;
         return POWER_POLICY_ANSWER_DONE;
     case POWER_POLICY_ORDER_CONNECT_CONSUMER:
-        printf("  order: connect consumer, port %u", device);
-        print_capability(order);
-        psu[0] = POWER_POLICY_PSU_CONNECTED_CONSUMER;
-        put_capability(psu + 1, power_policy_mv(order), power_policy_ma(order), power_policy_flags(order));
-        return POWER_POLICY_ANSWER_DONE;
-    case POWER_POLICY_ORDER_CONNECT_PROVIDER:
-        printf("  order: connect provider, port %u", device);
-        print_capability(order);
-        psu[0] = POWER_POLICY_PSU_CONNECTED_PROVIDER;
-        put_capability(psu + 1, power_policy_mv(order), power_policy_ma(order), power_policy_flags(order));
-        return POWER_POLICY_ANSWER_DONE;
-    case POWER_POLICY_ORDER_IS_READY:
-        printf("  order: is_ready, charger %u\n", device);
-        charger[0] = POWER_POLICY_CHARGER_INIT;
-        return charger_answer;
-    case POWER_POLICY_ORDER_INIT_CHARGER:
-        printf("  order: init_charger, charger %u\n", device);
-        charger[0] = POWER_POLICY_CHARGER_PSU_IS_ATTACHED;
-        return charger_answer;
-    case POWER_POLICY_ORDER_ATTACH:
-        printf("  order: attach, charger %u", device);
-        print_capability(order);
-        charger[1] = 1;
-        put_capability(charger + 2, power_policy_mv(order), power_policy_ma(order), power_policy_flags(order));
-        return charger_answer;
-    case POWER_POLICY_ORDER_DETACH:
-        printf("  order: detach, charger %u\n", device);
-        return charger_answer;
+        printf("  order: connect consumer, port %u", port);
+        psu->state = POWER_POLICY_PSU_CONNECTED_CONSUMER;
+        break;
     default:
+        printf("  order: connect provider, port %u", port);
+        psu->state = POWER_POLICY_PSU_CONNECTED_PROVIDER;
+        break;
+    }
+    print_capability(capability);
+    psu->contract = capability;
+    return POWER_POLICY_ANSWER_DONE;
+}
+
+/* Does an order to a charger, as a device that obeys but may be deaf. */
+static uint32_t perform_charger(uint64_t order, unsigned number)
+{
+    power_policy_charger *charger = &chargers[number];
+
+    switch (power_policy_order_kind(order)) {
+    case POWER_POLICY_ORDER_IS_READY:
+        printf("  order: is_ready, charger %u\n", number);
+        charger->state = POWER_POLICY_CHARGER_INIT;
+        break;
+    case POWER_POLICY_ORDER_INIT_CHARGER:
+        printf("  order: init_charger, charger %u\n", number);
+        charger->state = POWER_POLICY_CHARGER_PSU_IS_ATTACHED;
+        break;
+    case POWER_POLICY_ORDER_ATTACH:
+        printf("  order: attach, charger %u", number);
+        charger->capability_present = 1;
+        charger->capability = power_policy_result_capability(order);
+        print_capability(charger->capability);
+        break;
+    default:
+        printf("  order: detach, charger %u\n", number);
+        break;
+    }
+    return deaf ? POWER_POLICY_ANSWER_CHARGER : POWER_POLICY_ANSWER_DONE;
+}
+
+/* Does an order and gives the answer. */
+static uint32_t perform(uint64_t order)
+{
+    unsigned device = power_policy_order_device(order);
+
+    switch (power_policy_order_kind(order)) {
+    case POWER_POLICY_ORDER_WAIT:
         printf("  order: wait %u ms\n", power_policy_order_wait_ms(order));
         return POWER_POLICY_ANSWER_DONE;
+    case POWER_POLICY_ORDER_DISCONNECT:
+    case POWER_POLICY_ORDER_CONNECT_CONSUMER:
+    case POWER_POLICY_ORDER_CONNECT_PROVIDER:
+        return device < PORTS ? perform_psu(order, device) : POWER_POLICY_ANSWER_INVALID_DEVICE;
+    default:
+        return device < CHARGERS ? perform_charger(order, device) : POWER_POLICY_ANSWER_CHARGER;
     }
 }
 
@@ -109,7 +122,7 @@ static void take(const char *what, const uint8_t *packet, size_t length)
     printf("  desk: event %lu", (unsigned long)power_policy_shown_number(shown));
     if (power_policy_consumer_present(consumer))
         printf(", consumer %u with %lu mW", power_policy_consumer_port(consumer),
-               (unsigned long)power_policy_mv(consumer) * power_policy_ma(consumer) / 1000);
+               (unsigned long)power_policy_capability_mw(power_policy_result_capability(consumer)));
     else
         printf(", no consumer");
     printf(", unconstrained %u of %u", power_policy_shown_unconstrained(shown), power_policy_shown_available(shown));
@@ -130,17 +143,41 @@ static void take_picture(void)
     take("picture", buffer, power_policy_written_length(written));
 }
 
+/* The present records, as bytes. */
+static uint8_t psu_records[PORTS * POWER_POLICY_PSU_RECORD];
+static uint8_t charger_records[CHARGERS * POWER_POLICY_CHARGER_RECORD];
+
+static void write_records(void)
+{
+    power_policy_psus_encode(psu_records, psus, PORTS);
+    power_policy_chargers_encode(charger_records, chargers, CHARGERS);
+}
+
+/* Opens an event with the present records. */
+static uint64_t open_event(uint32_t kind, uint32_t port)
+{
+    write_records();
+    return check(power_policy_open(service, sizeof service, psu_records, sizeof psu_records, charger_records, sizeof charger_records,
+                                   kind, port, 0));
+}
+
+/* Answers the last order with the present records. */
+static uint64_t answer_order(uint32_t answer)
+{
+    write_records();
+    return check(power_policy_answer(service, sizeof service, psu_records, sizeof psu_records, charger_records, sizeof charger_records,
+                                     answer));
+}
+
 /* An event from its opening to its close. */
 static void run_event(const char *what, uint32_t kind, uint32_t port)
 {
     uint64_t reply;
 
     printf("%s\n", what);
-    reply = check(power_policy_open(service, sizeof service, psus[0], sizeof psus, chargers[0], sizeof chargers, kind, port, 0));
-    while (power_policy_outcome(reply) == POWER_POLICY_OUTCOME_ORDER) {
-        uint32_t answer = perform(reply);
-        reply = check(power_policy_answer(service, sizeof service, psus[0], sizeof psus, chargers[0], sizeof chargers, answer));
-    }
+    reply = open_event(kind, port);
+    while (power_policy_outcome(reply) == POWER_POLICY_OUTCOME_ORDER)
+        reply = answer_order(perform(reply));
     if (power_policy_closed_answer(reply) == POWER_POLICY_ANSWER_DONE)
         printf("  closed: done");
     else if (power_policy_closed_expected(reply) == 0)
@@ -153,27 +190,30 @@ static void run_event(const char *what, uint32_t kind, uint32_t port)
 
 int main(void)
 {
-    chargers[0][0] = POWER_POLICY_CHARGER_PSU_IS_DETACHED;
-    /* The original's default configuration: 15 W, 5 V at 3 A and at 1.5 A, no minimum. */
-    check(power_policy_start(service, sizeof service, PORTS, CHARGERS, 15000, 5000, 3000, 5000, 1500, 0, 0));
+    const power_policy_psu unplugged = {POWER_POLICY_PSU_DETACHED, {0, 0, 0}, 0, {0, 0, 0}, 0, {0, 0, 0}};
+    const power_policy_capability sixty_watts = {20000, 3000, POWER_POLICY_TYPE_C | POWER_POLICY_FLAG_UNCONSTRAINED};
+    const power_policy_capability four_and_a_half_watts = {5000, 900, POWER_POLICY_TYPE_C};
+
+    chargers[0].state = POWER_POLICY_CHARGER_PSU_IS_DETACHED;
+    check(power_policy_start_default(service, sizeof service, PORTS, CHARGERS));
     check(power_policy_follower_start(follower, sizeof follower));
 
     printf("start\n");
     take_picture();
 
-    psus[1][0] = POWER_POLICY_PSU_IDLE;
+    psus[1].state = POWER_POLICY_PSU_IDLE;
     run_event("port 1 attached", POWER_POLICY_EVENT_ATTACHED, 1);
 
-    psus[1][6] = 1;
-    put_capability(psus[1] + 7, 20000, 3000, POWER_POLICY_TYPE_C | POWER_POLICY_FLAG_UNCONSTRAINED);
+    psus[1].consumer_present = 1;
+    psus[1].consumer = sixty_watts;
     run_event("port 1 offers 60 W", POWER_POLICY_EVENT_UPDATED_CONSUMER_CAPABILITY, 1);
 
-    psus[2][0] = POWER_POLICY_PSU_IDLE;
-    psus[2][12] = 1;
-    put_capability(psus[2] + 13, 5000, 900, POWER_POLICY_TYPE_C);
+    psus[2].state = POWER_POLICY_PSU_IDLE;
+    psus[2].request_present = 1;
+    psus[2].request = four_and_a_half_watts;
     run_event("port 2 asks for 4.5 W", POWER_POLICY_EVENT_REQUESTED_PROVIDER_CAPABILITY, 2);
 
-    memset(psus[1], 0, sizeof psus[1]);
+    psus[1] = unplugged;
     deaf = 1;
     run_event("port 1 detached, chargers deaf", POWER_POLICY_EVENT_DETACHED, 1);
     take_picture();

@@ -7,34 +7,16 @@
 # Its last line is 'N passed, M failed'.
 set -u
 cd "$(dirname "$0")/.." || exit 2
+. tests/lib.sh
 src=${POWER_POLICY_RUST:-../shared/docs/src}
-passed=0
-failed=0
 if [ ! -d "$src" ]; then
     echo "the original Rust is not at $src: not compared in this run"
-    echo "0 passed, 0 failed"
-    exit 0
+    finish
 fi
 if ! command -v cargo >/dev/null; then
-    echo "no cargo: the original Rust at $src cannot be built"
-    echo "0 passed, 1 failed"
-    exit 1
+    fail "no cargo: the original Rust at $src cannot be built"
+    finish
 fi
-work=$(mktemp -d)
-trap 'rm -rf "$work"' EXIT
-
-test_that() { # WHAT COMMAND..
-    what=$1
-    shift
-    if "$@" >"$work/log" 2>&1; then
-        passed=$((passed + 1))
-        echo "ok: $what"
-    else
-        failed=$((failed + 1))
-        cat "$work/log"
-        echo "FAILED: $what"
-    fi
-}
 
 none_differ() { # PROGRAM FILE
     "target/bin/$1" <"$2" | tee "$work/said"
@@ -60,5 +42,4 @@ for seed in 1 2 3; do
     test_that "a million random events of up to 16 ports and 8 chargers, seed $seed" runs_agree stream "$seed" 1000000
 done
 
-echo "$passed passed, $failed failed"
-[ "$failed" -eq 0 ]
+finish

@@ -6,45 +6,21 @@
 # test; its own line says how many cases it compared. Its last line is 'N passed, M failed'.
 set -u
 cd "$(dirname "$0")/.." || exit 2
-root=$PWD
+. tests/lib.sh
 src=${POWER_POLICY_RUST:-../shared/docs/src}
-lib=${POWER_POLICY_LIB:-target/staticlib}
-case $lib in /*) ;; *) lib=$root/$lib ;; esac
-export POWER_POLICY_LIB=$lib CARGO_TARGET_DIR=$root/target/rust
-passed=0
-failed=0
-log=$(mktemp)
-trap 'rm -f "$log"' EXIT
+export POWER_POLICY_LIB=$lib CARGO_TARGET_DIR=$PWD/target/rust
 
-# Runs a command whose last line is 'N passed, M failed': it passes if M is 0 and N is not.
-tested() { # WHAT COMMAND..
-    local what=$1 status line
-    shift
-    "$@" >"$log" 2>&1
-    status=$?
-    line=$(tail -n 1 "$log" | sed -nE 's/^([0-9]+) passed, ([0-9]+) failed$/\1 \2/p')
-    if [ "$status" -eq 0 ] && [ "${line#* }" = 0 ] && [ "${line% *}" -gt 0 ]; then
-        passed=$((passed + 1))
-        echo "ok: $what: ${line% *} cases"
-    else
-        failed=$((failed + 1))
-        grep -E '^(FAILED|and |boundary:)' "$log" || tail -n 20 "$log"
-        echo "FAILED: $what: ${line:-no count} (cases that passed and failed)"
-    fi
-}
-
-if [ ! -f "$lib/libpower_policy.a" ] || ! (cd rust/boundary && cargo --offline build --release --quiet) >"$log" 2>&1; then
-    cat "$log"
-    echo "nothing is tested: no archive in $lib, or it does not link"
-    echo "0 passed, 1 failed"
-    exit 1
+if [ ! -f "$lib/libpower_policy.a" ] || ! (cd rust/boundary && cargo --offline build --release --quiet) >"$work/log" 2>&1; then
+    cat "$work/log"
+    fail "nothing is tested: no archive in $lib, or it does not link"
+    finish
 fi
 boundary=target/rust/release/boundary
 tested "refusals" $boundary refusals
 for seed in 1 2 3 4; do tested "random calls, seed $seed" $boundary random $seed 1000000; done
 tested "takes against the model" $boundary model 1 200000
 # Every byte read or written outside what is lent, and every byte used that nobody wrote, under valgrind.
-command -v valgrind >/dev/null || apt-get install -y -q valgrind >"$log" 2>&1
+command -v valgrind >/dev/null || apt-get install -y -q valgrind >"$work/log" 2>&1
 watched="valgrind -q --error-exitcode=9 $boundary --exact"
 tested "random calls under valgrind" $watched random 5 200000
 tested "takes against the model under valgrind" $watched model 2 20000
@@ -53,12 +29,10 @@ if [ -d "$src" ]; then
         tested "the original, exhaustive" $boundary original exhaustive
         for seed in 1 2; do tested "the original, random events, seed $seed" $boundary original random $seed 300000; done
     else
-        echo "the original Rust at $src is not built"
-        failed=$((failed + 1))
+        fail "the original Rust at $src is not built"
     fi
 else
     echo "the original Rust is not at $src: not compared in this run"
 fi
 
-echo "$passed passed, $failed failed"
-[ "$failed" -eq 0 ]
+finish

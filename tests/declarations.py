@@ -3,9 +3,11 @@
 
 Compares the C functions as they are written in four places: the Rattle source that exports them (crates/power_policy/src/lib.rt), the C header,
 the Rust crate's declarations, and the safe functions around these with what they hand on. Names, order, names and types of the arguments and the
-result's type must be equal. docs/STATE.md must name the same functions; header and Rust crate must have the same lengths and refusals. The
-milliseconds of a wait must be the same in header, Rust crate, the definition (crates/abstract_calls/specs/Numbers.antt) and the Rattle
-that an order's number is made by (crates/bytes_calls/src/numbers.rt).
+result's type must be equal. docs/STATE.md must name the same functions; header and Rust crate must have the same lengths, refusals and words for
+refusals, and one version. Both configurations must be the same in header, Rust crate and Rattle (crates/power_policy_service/src/config.rt), and the
+header's configuration must have the fields that a start takes, and hand them on in order. The milliseconds of a wait must be the same in header, Rust
+crate, the definition (crates/abstract_calls/specs/Numbers.antt) and the Rattle that an order's number is made by (crates/bytes_calls/src/numbers.rt).
+Every function of the header must have a comment of its own.
 Then each text is changed in several ways, and each change must be found. Its last line is 'N passed, M failed'.
 """
 
@@ -81,8 +83,24 @@ def rattle(text):
     return once(found)
 
 
+def end_of_block(text, place):
+    """The place behind the block that opens at a place."""
+    depth = 0
+    for at in range(place, len(text)):
+        depth += {"{": 1, "}": -1}.get(text[at], 0)
+        if depth == 0:
+            return at + 1
+    raise Unreadable("a block without its end")
+
+
+def without_inline(text):
+    """The text without its inline functions."""
+    rest = text.split("static inline")
+    return rest[0] + "".join(one[end_of_block(one, one.index("{")) :] for one in rest[1:])
+
+
 def header(text):
-    text = re.sub(r"static inline[^{]*\{[^}]*\}", " ", without_comments(text))
+    text = without_inline(without_comments(text))
     text = "\n".join(line for line in text.split("\n") if not line.lstrip().startswith("#"))
     types = {
         "uint8_t *": "mutable pointer",
@@ -153,13 +171,98 @@ def state(text):
     return sorted(re.findall(r"^\| `(" + PREFIX + r"\w+)` \|", text, flags=re.M))
 
 
+def uncommented(text):
+    """The header's functions that have no comment directly before them."""
+    found = re.findall(r"(.*)\n(?:static inline|uint64_t) [^(\n]*?(\w+)\(", text)
+    return [name for before, name in found if not before.rstrip().endswith("*/")] if found else ["nothing"]
+
+
+def versions(texts):
+    """The version in the header, by its number, and in the Rust crate."""
+    named = re.findall(r'^#define POWER_POLICY_VERSION "([\d.]+)"$', texts["header"], flags=re.M)
+    number = [int(value) for value in re.findall(r"^#define POWER_POLICY_VERSION_NUMBER (\d+)$", texts["header"], flags=re.M)]
+    by_number = [f"{one // 10000}.{one // 100 % 100}.{one % 100}" for one in number]
+    return {
+        "the header": named,
+        "the header's number": by_number,
+        "the Rust crate": re.findall(r'^version = "([\d.]+)"$', texts["cargo"], flags=re.M),
+    }
+
+
+def words(texts):
+    """The words of each refusal, in the header and in the Rust crate."""
+    in_header = re.findall(r'case POWER_POLICY_REFUSED_(\w+):\s*return "([^"]*)";', texts["header"])
+    in_rust = re.findall(r'Self::(\w+) => (?:\{\s*)?"([^"]*)"', re.search(r"fn text\(.*?\n    \}\n", texts["reply"], flags=re.S).group(0))
+    return dict(in_header), {upper(name): text for name, text in in_rust}
+
+
+def upper(name):
+    """A name of Rust as the header writes it."""
+    return re.sub(r"(?<!^)([A-Z])", r"_\1", name).upper()
+
+
+def macro(text, name):
+    """The figures of a configuration in the header, which may be another's."""
+    value = re.search(rf"^#define POWER_POLICY_CONFIG_{name} (.*)$", without_comments(text), flags=re.M)
+    if not value:
+        raise Unreadable(f"no configuration {name}")
+    other = re.fullmatch(r"POWER_POLICY_CONFIG_(\w+)", value.group(1).strip())
+    return macro(text, other.group(1)) if other else [int(one) for one in re.findall(r"\d+", value.group(1))]
+
+
+def made(text, name):
+    """The figures of a configuration that a function of Rattle or of Rust gives, which may start from another's."""
+    body = re.search(rf"fn {name}\(\) -> Self\b.*?\n    \}}\n", without_comments(text), flags=re.S)
+    if not body:
+        raise Unreadable(f"no configuration {name}")
+    body = body.group(0)
+    figures = made(text, "rust_default") if "::rust_default()" in body else [None] * 7
+    capability = r": PowerCapability \{\s*voltage_mv: (\d+),\s*current_ma: (\d+),"
+    for pattern, places in (
+        (r"limited_power_threshold_mw: (\d+)", slice(0, 1)),
+        ("provider_unlimited" + capability, slice(1, 3)),
+        ("provider_limited" + capability, slice(3, 5)),
+    ):
+        match = re.search(pattern, body)
+        if match:
+            figures[places] = [int(one) for one in match.groups()]
+    minimum = re.search(r"min_consumer_threshold_mw: (?:OptionMilliwatts::)?(?:None|Some\((\d+)\))", body)
+    if minimum:
+        figures[5:] = [1, int(minimum.group(1))] if minimum.group(1) else [0, 0]
+    return figures
+
+
+def configurations(texts):
+    """Both configurations by name, in each place."""
+    names = (("DEFAULT", "default"), ("RUST_DEFAULT", "rust_default"))
+    return {
+        "the header": {name: macro(texts["header"], written) for written, name in names},
+        "the Rust crate": {name: made(texts["config"], name) for _, name in names},
+        "the Rattle source": {name: made(texts["rattle config"], name) for _, name in names},
+    }
+
+
+def handed_on(text):
+    """Whether the header's configuration has the figures that a start takes, and its start hands them on in order."""
+    text = without_comments(text)
+    struct = re.search(r"typedef struct power_policy_config \{(.*?)\}", text, flags=re.S)
+    call = re.search(r"power_policy_start_with\([^)]*\)\s*\{\s*return power_policy_start\((.*?)\);", text, flags=re.S)
+    if not struct or not call:
+        raise Unreadable("no start from a configuration")
+    fields = re.findall(r"uint64_t (\w+);", struct.group(1))
+    arguments = [name for name, _ in header(text)[PREFIX + "start"][1]]
+    lent = ["image", "image_len", "ports", "chargers"]
+    wanted = lent + ["config->" + name for name in fields]
+    return arguments[3:] == fields and split(call.group(1)) == wanted
+
+
 def numbers(texts):
     """Lengths and refusals, in the header and in the Rust crate."""
     in_header, in_rust = {}, {}
     plain = without_comments(texts["header"])
     names = {"IMAGE": "SERVICE_IMAGE", "PORTS": "MAX_PORTS", "CHARGERS": "MAX_CHARGERS", "WAIT_MS": "WAIT_MILLIS"}
     for name, value in re.findall(r"#define POWER_POLICY_(\w+) (\d+)", plain):
-        if name != "FLAG_UNCONSTRAINED":
+        if name not in ("FLAG_UNCONSTRAINED", "VERSION_NUMBER"):
             in_header[names.get(name, name)] = int(value)
     for name, value in re.findall(r"POWER_POLICY_REFUSED_(\w+) = (\d+)", plain):
         in_header["refusal " + name] = int(value)
@@ -168,7 +271,7 @@ def numbers(texts):
             in_rust[name] = int(value)
     refusals = re.search(r"pub enum Refusal \{(.*?)\n\}", without_comments(texts["reply"]), flags=re.S)
     for name, value in re.findall(r"(\w+) = (\d+),", refusals.group(1) if refusals else ""):
-        in_rust["refusal " + re.sub(r"(?<!^)([A-Z])", r"_\1", name).upper()] = int(value)
+        in_rust["refusal " + upper(name)] = int(value)
     return in_header, in_rust
 
 
@@ -181,6 +284,30 @@ def waits(texts):
         ("the Rattle const", without_comments(texts["numbers"]), r"^\s*(?:pub\s+)?const\s+WAIT_MS\s*:\s*u16\s*=\s*(\d+)\s*;"),
     )
     return {place: [int(value) for value in re.findall(pattern, text, flags=re.M)] for place, text, pattern in places}
+
+
+def differing(texts):
+    """What differs in versions, words, configurations and comments, as lines."""
+    found = []
+    version = versions(texts)
+    if any(len(values) != 1 or values != version["the header"] for values in version.values()):
+        found.append(f"version: {version}")
+    in_header, in_rust = words(texts)
+    if in_header != in_rust or len(in_header) != 14:
+        found.append(f"refusals in words: the header {in_header}, the Rust crate {in_rust}")
+    try:
+        configured = configurations(texts)
+        if any(None in figures for figures in configured["the Rattle source"].values()):
+            found.append(f"configurations without all figures: {configured}")
+        if any(values != configured["the header"] for values in configured.values()):
+            found.append(f"configurations: {configured}")
+        if not handed_on(texts["header"]):
+            found.append("the header's start from a configuration hands on other figures")
+    except Unreadable as error:
+        found.append(str(error))
+    if uncommented(texts["header"]):
+        found.append(f"no comment before {uncommented(texts['header'])}")
+    return found
 
 
 def differences(texts):
@@ -209,6 +336,7 @@ def differences(texts):
     in_header, in_rust = numbers(texts)
     if in_header != in_rust or len(in_header) != 22:
         found.append(f"numbers: the header {in_header}, the Rust crate {in_rust}")
+    found += differing(texts)
     millis = waits(texts)
     if any(len(values) != 1 or values != millis["the header"] for values in millis.values()):
         found.append(f"milliseconds of a wait: {millis}")
@@ -257,6 +385,25 @@ def changes(texts):
         ("definition", "waitMs = 800", "waitMs = 80"),
         ("definition", "waitMs = 800", "waitsMs = 800"),
         ("definition", "waitMs = 800", "waitMs = 800\nwaitMs = 800"),
+        ("header", 'POWER_POLICY_VERSION "0.', 'POWER_POLICY_VERSION "9.'),
+        ("header", "POWER_POLICY_VERSION_NUMBER 1", "POWER_POLICY_VERSION_NUMBER 2"),
+        ("cargo", '\nversion = "0.', '\nversion = "9.'),
+        ("header", '"an event is open"', '"no event is open"'),
+        ("reply", '"an event is open"', '"no event is open"'),
+        ("header", "case POWER_POLICY_REFUSED_OPEN:", "case POWER_POLICY_REFUSED_NO_ORDER:"),
+        ("reply", "Self::Open =>", "Self::NoOrder =>"),
+        ("header", "RUST_DEFAULT {15000, 5000, 3000,", "RUST_DEFAULT {15000, 3000, 5000,"),
+        ("header", "CONFIG_DEFAULT POWER_POLICY_CONFIG_RUST_DEFAULT", "CONFIG_DEFAULT {15000, 5000, 3000, 5000, 1500, 1, 7500}"),
+        ("config", "current_ma: 1500", "current_ma: 1501"),
+        ("config", "min_consumer_threshold_mw: None", "min_consumer_threshold_mw: Some(0)"),
+        ("config", "        Self::rust_default()", "        Self { min_consumer_threshold_mw: Some(7500), ..Self::rust_default() }"),
+        ("rattle config", "limited_power_threshold_mw: 15000", "limited_power_threshold_mw: 15001"),
+        ("rattle config", "OptionMilliwatts::None,\n        }", "OptionMilliwatts::Some(7500),\n        }"),
+        ("header", "    uint64_t limited_mv; ", "    uint64_t limit_mv; "),
+        ("header", "config->limited_mv, config->limited_ma", "config->limited_ma, config->limited_mv"),
+        ("header", "config->minimum_present, config->minimum_mw", "config->minimum_present, config->threshold_mw"),
+        ("header", "/** The port of the consumer shown. */\n", ""),
+        ("header", "/** The tracked ports shown, none if lost. Tracked, or refused: 21. */\n", "\n"),
         ("numbers", "WAIT_MS: u16 = 800", "WAIT_MS: u16 = 799"),
         ("numbers", "WAIT_MS: u16 = 800", "WAIT_MS: u8 = 800"),
         ("numbers", "const WAIT_MS: u16 = 800", "// const WAIT_MS: u16 = 800"),
@@ -275,6 +422,9 @@ def main():
         "header": ROOT / "include/power_policy.h",
         "ffi": ROOT / "rust/power_policy/src/ffi.rs",
         "crate": ROOT / "rust/power_policy/src/lib.rs",
+        "cargo": ROOT / "rust/power_policy/Cargo.toml",
+        "config": ROOT / "rust/power_policy/src/config.rs",
+        "rattle config": ROOT / "crates/power_policy_service/src/config.rt",
         "record": ROOT / "rust/power_policy/src/record.rs",
         "reply": ROOT / "rust/power_policy/src/reply.rs",
         "state": ROOT / "docs/STATE.md",

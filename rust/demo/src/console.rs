@@ -119,7 +119,7 @@ impl Devices for Console {
         self.orders.push("w".to_string());
     }
 
-    fn records(&self, records: &mut Records) {
+    async fn records(&mut self, records: &mut Records) {
         for (port, psu) in (0..).zip(&self.psus) {
             records.set_psu(port, psu);
         }

@@ -93,7 +93,7 @@ impl Devices for Console {
         println!("  order: wait {millis} ms");
     }
 
-    fn records(&self, records: &mut Records) {
+    async fn records(&mut self, records: &mut Records) {
         for (port, psu) in (0..).zip(&self.psus) {
             records.set_psu(port, psu);
         }

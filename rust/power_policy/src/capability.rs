@@ -3,24 +3,40 @@
 /// mV and mA.
 #[derive(Clone, Copy, Debug, PartialEq, Eq)]
 pub struct PowerCapability {
+    /// The voltage in mV.
     pub voltage_mv: u16,
+    /// The current in mA.
     pub current_ma: u16,
 }
 
 impl PowerCapability {
     /// mV times mA by 1000, rounded down.
+    ///
+    /// ```
+    /// use power_policy::PowerCapability;
+    ///
+    /// let capability = PowerCapability { voltage_mv: 999, current_ma: 1 };
+    /// assert_eq!(capability.max_power_mw(), 0);
+    /// ```
     pub fn max_power_mw(&self) -> u32 {
         u32::from(self.voltage_mv) * u32::from(self.current_ma) / 1000
     }
 }
 
+/// What a PSU is connected by.
 #[derive(Clone, Copy, Debug, PartialEq, Eq)]
 pub enum PsuType {
+    /// USB Type-C.
     TypeC,
+    /// A DC jack.
     DcJack,
+    /// A type of the console's own.
     Custom0,
+    /// Another type of the console's own.
     Custom1,
+    /// Another type of the console's own.
     Custom2,
+    /// Another type of the console's own.
     Custom3,
 }
 
@@ -51,26 +67,37 @@ impl PsuType {
     }
 }
 
+/// The flags of a capability to consume.
 #[derive(Clone, Copy, Debug, Default, PartialEq, Eq)]
 pub struct ConsumerFlags {
+    /// Whether the supply is not limited, as the mains are.
     pub unconstrained_power: bool,
+    /// What the PSU is connected by, if it is said.
     pub psu_type: Option<PsuType>,
 }
 
+/// The flags of a capability to provide.
 #[derive(Clone, Copy, Debug, Default, PartialEq, Eq)]
 pub struct ProviderFlags {
+    /// What the PSU is connected by, if it is said.
     pub psu_type: Option<PsuType>,
 }
 
+/// What a port can consume.
 #[derive(Clone, Copy, Debug, PartialEq, Eq)]
 pub struct ConsumerPowerCapability {
+    /// mV and mA.
     pub capability: PowerCapability,
+    /// Its flags.
     pub flags: ConsumerFlags,
 }
 
+/// What a port can provide.
 #[derive(Clone, Copy, Debug, PartialEq, Eq)]
 pub struct ProviderPowerCapability {
+    /// mV and mA.
     pub capability: PowerCapability,
+    /// Its flags.
     pub flags: ProviderFlags,
 }
 
@@ -82,6 +109,16 @@ fn encode(capability: PowerCapability, flags: u8) -> [u8; 5] {
 
 impl ConsumerPowerCapability {
     /// mV and mA, the low byte first, and the flag byte.
+    ///
+    /// ```
+    /// use power_policy::*;
+    ///
+    /// let offered = ConsumerPowerCapability {
+    ///     capability: PowerCapability { voltage_mv: 20000, current_ma: 3000 },
+    ///     flags: ConsumerFlags { unconstrained_power: true, psu_type: Some(PsuType::TypeC) },
+    /// };
+    /// assert_eq!(offered.encode(), [0x20, 0x4E, 0xB8, 0x0B, 3]);
+    /// ```
     pub fn encode(&self) -> [u8; 5] {
         let unconstrained = u8::from(self.flags.unconstrained_power);
         encode(
@@ -120,10 +157,16 @@ impl ProviderPowerCapability {
 /// Why a consumer is disconnected.
 #[derive(Clone, Copy, Debug, PartialEq, Eq)]
 pub enum DisconnectReason {
+    /// The device was detached.
     Detached = 1,
+    /// Another consumer was chosen.
     Switching = 2,
+    /// The same port has another capability.
     AutoRenegotiation = 3,
+    /// A renegotiation was asked for.
     ManualRenegotiation = 4,
+    /// Consumer and provider change places.
     RoleSwap = 5,
+    /// The port was reset.
     Reset = 6,
 }

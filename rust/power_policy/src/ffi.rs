@@ -1,4 +1,5 @@
-//! The C functions as they are declared in include/power_policy.h, and each as a safe function on slices.
+//! The C functions as they are declared in include/power_policy.h, and each as a safe function on slices. Hidden: it is public for
+//! the programs that compare and time the functions themselves, and other crates use the types.
 
 #![allow(unsafe_code)]
 

@@ -13,18 +13,25 @@ pub const CHARGER_RECORD: usize = 7;
 /// The state of a PSU.
 #[derive(Clone, Copy, Debug, Default, PartialEq, Eq)]
 pub enum PsuState {
+    /// No device is attached.
     #[default]
     Detached,
+    /// A device is attached, and neither consumes nor provides.
     Idle,
+    /// A device is provided with this.
     ConnectedProvider(ProviderPowerCapability),
+    /// This is consumed from the device.
     ConnectedConsumer(ConsumerPowerCapability),
 }
 
 /// The record of a port: the original's `psu::State`.
 #[derive(Clone, Copy, Debug, Default, PartialEq, Eq)]
 pub struct Psu {
+    /// Its state.
     pub psu_state: PsuState,
+    /// What it offers to consume, if anything.
     pub consumer_capability: Option<ConsumerPowerCapability>,
+    /// What it asks to be provided with, if anything.
     pub requested_provider_capability: Option<ProviderPowerCapability>,
 }
 
@@ -40,6 +47,13 @@ fn optional(capability: Option<[u8; 5]>) -> [u8; 6] {
 }
 
 impl Psu {
+    /// The record's bytes.
+    ///
+    /// ```
+    /// use power_policy::{PSU_RECORD, Psu};
+    ///
+    /// assert_eq!(Psu::default().encode(), [0; PSU_RECORD]);
+    /// ```
     pub fn encode(&self) -> [u8; PSU_RECORD] {
         let state = match &self.psu_state {
             PsuState::Detached => group(0, None),
@@ -64,21 +78,28 @@ impl Psu {
 /// The state of a charger.
 #[derive(Clone, Copy, Debug, Default, PartialEq, Eq)]
 pub enum ChargerState {
+    /// It has no power.
     #[default]
     Unpowered = 0,
+    /// It has power and is not initialized.
     Init = 1,
+    /// It is initialized, and a PSU is attached.
     PsuAttached = 2,
+    /// It is initialized, and no PSU is attached.
     PsuDetached = 3,
 }
 
 /// The record of a charger: the original's `charger::State`.
 #[derive(Clone, Copy, Debug, Default, PartialEq, Eq)]
 pub struct Charger {
+    /// Its state.
     pub state: ChargerState,
+    /// What it is attached to, if anything.
     pub capability: Option<ConsumerPowerCapability>,
 }
 
 impl Charger {
+    /// The record's bytes.
     pub fn encode(&self) -> [u8; CHARGER_RECORD] {
         let mut record = [0; CHARGER_RECORD];
         record[0] = self.state as u8;
@@ -89,6 +110,14 @@ impl Charger {
 }
 
 /// The present records of all ports and chargers, as bytes.
+///
+/// ```
+/// use power_policy::{Psu, PsuState, Records};
+///
+/// let mut records = Records::new(2, 0);
+/// records.set_psu(1, &Psu { psu_state: PsuState::Idle, ..Psu::default() });
+/// assert_eq!((records.psus().len(), records.psus()[18]), (36, 1));
+/// ```
 #[derive(Clone, Copy, Debug, PartialEq, Eq)]
 pub struct Records {
     ports: usize,

@@ -5,18 +5,28 @@ use core::fmt;
 use crate::capability::{ConsumerPowerCapability, PowerCapability, ProviderPowerCapability};
 
 /// Why a call was turned back. It changed nothing.
+///
+/// A later version may have more of them.
+///
+/// ```
+/// use power_policy::{Error, Refusal};
+///
+/// assert_eq!(Refusal::Buffer.to_string(), "a buffer under 64 bytes");
+/// assert_eq!(Error::Refused(Refusal::Buffer).to_string(), "refused with 29: a buffer under 64 bytes");
+/// ```
 #[derive(Clone, Copy, Debug, PartialEq, Eq)]
+#[non_exhaustive]
 #[repr(u8)]
 pub enum Refusal {
-    /// Over 16 ports or 8 chargers, or a configuration figure over its type.
+    /// Over 16 ports or 8 chargers, a configuration figure over its type, or a minimum's presence above 1.
     Configuration = 20,
-    /// Bytes that are no state's image.
+    /// Bytes that no state is written as.
     Image = 21,
     /// Records of wrong length or with a field out of range.
     Records = 22,
     /// A port or charger that is not registered.
     Device = 23,
-    /// An unknown kind, reason, PSU state or answer, or an answer that the order cannot have.
+    /// An unknown event kind, reason, PSU state or answer, or an answer that the order cannot have.
     Kind = 24,
     /// An event is open.
     Open = 25,
@@ -40,7 +50,7 @@ pub enum Refusal {
 
 impl Refusal {
     /// All, by their numbers.
-    pub const ALL: [Self; 14] = [
+    pub const ALL: &'static [Self] = &[
         Self::Configuration,
         Self::Image,
         Self::Records,
@@ -62,16 +72,58 @@ impl Refusal {
         self as u8
     }
 
+    /// The refusal of a number, if there is one.
+    ///
+    /// ```
+    /// use power_policy::Refusal;
+    ///
+    /// assert_eq!(Refusal::from_number(23), Some(Refusal::Device));
+    /// assert_eq!(Refusal::from_number(19), None);
+    /// ```
     pub fn from_number(number: u8) -> Option<Self> {
         Self::ALL
-            .into_iter()
+            .iter()
+            .copied()
             .find(|refusal| refusal.number() == number)
     }
+
+    /// What was refused, in words: those of `power_policy_refusal_text`.
+    pub fn text(self) -> &'static str {
+        match self {
+            Self::Configuration => {
+                "over 16 ports or 8 chargers, a configuration figure over its type, or a minimum's presence above 1"
+            }
+            Self::Image => "bytes that no state is written as",
+            Self::Records => "records of wrong length or with a field out of range",
+            Self::Device => "a port or charger that is not registered",
+            Self::Kind => {
+                "an unknown event kind, reason, PSU state or answer, or an answer that the order cannot have"
+            }
+            Self::Open => "an event is open",
+            Self::NoOrder => "no order is open",
+            Self::NoEvent => "a packet before event 1",
+            Self::LastNumber => "a PSU event after number 4,294,967,295",
+            Self::Buffer => "a buffer under 64 bytes",
+            Self::CutShort => "a packet that is cut short or empty",
+            Self::Number => "a number that is not in its shortest form or over its limit",
+            Self::Field => "a kind or field that is not as laid out",
+            Self::LeftOver => "bytes after the packet's end",
+        }
+    }
 }
+
+impl fmt::Display for Refusal {
+    fn fmt(&self, f: &mut fmt::Formatter<'_>) -> fmt::Result {
+        f.write_str(self.text())
+    }
+}
+
+impl core::error::Error for Refusal {}
 
 /// A call that did not do what it was asked.
 #[derive(Clone, Copy, Debug, PartialEq, Eq)]
 pub enum Error {
+    /// It was turned back, and changed nothing.
     Refused(Refusal),
     /// A result that the functions do not give: the archive is not the one that this crate is for.
     Unknown(u64),
@@ -80,8 +132,11 @@ pub enum Error {
 impl fmt::Display for Error {
     fn fmt(&self, f: &mut fmt::Formatter<'_>) -> fmt::Result {
         match self {
-            Self::Refused(refusal) => write!(f, "refused {}", refusal.number()),
-            Self::Unknown(result) => write!(f, "unknown result {result:#x}"),
+            Self::Refused(refusal) => write!(f, "refused with {}: {refusal}", refusal.number()),
+            Self::Unknown(result) => write!(
+                f,
+                "unknown result {result:#x}: libpower_policy.a is not of this crate's version"
+            ),
         }
     }
 }
@@ -91,15 +146,25 @@ impl core::error::Error for Error {}
 /// A PSU's error. What it carries in the original is dropped.
 #[derive(Clone, Copy, Debug, PartialEq, Eq)]
 pub enum PsuError {
+    /// There is no such device.
     InvalidDevice = 1,
+    /// The device does not provide.
     CannotProvide = 2,
+    /// The device does not consume.
     CannotConsume = 3,
+    /// The device is in a wrong state.
     InvalidState = 4,
+    /// The device's response cannot be read.
     InvalidResponse = 5,
+    /// The device cannot respond now.
     Busy = 6,
+    /// The device did not respond in time.
     Timeout = 7,
+    /// The bus to the device failed.
     Bus = 8,
+    /// A charger failed.
     Charger = 9,
+    /// The device failed in another way.
     Failed = 10,
 }
 
@@ -121,15 +186,43 @@ impl PsuError {
     }
 }
 
+impl fmt::Display for PsuError {
+    fn fmt(&self, f: &mut fmt::Formatter<'_>) -> fmt::Result {
+        f.write_str(match self {
+            Self::InvalidDevice => "there is no such device",
+            Self::CannotProvide => "the device does not provide",
+            Self::CannotConsume => "the device does not consume",
+            Self::InvalidState => "the device is in a wrong state",
+            Self::InvalidResponse => "the device's response cannot be read",
+            Self::Busy => "the device cannot respond now",
+            Self::Timeout => "the device did not respond in time",
+            Self::Bus => "the bus to the device failed",
+            Self::Charger => "a charger failed",
+            Self::Failed => "the device failed",
+        })
+    }
+}
+
+impl core::error::Error for PsuError {}
+
 /// A charger's error, whatever it was.
 #[derive(Clone, Copy, Debug, PartialEq, Eq)]
 pub struct ChargerError;
 
+impl fmt::Display for ChargerError {
+    fn fmt(&self, f: &mut fmt::Formatter<'_>) -> fmt::Result {
+        PsuError::Charger.fmt(f)
+    }
+}
+
+impl core::error::Error for ChargerError {}
+
 /// An answer to an order.
 #[derive(Clone, Copy, Debug, PartialEq, Eq)]
 pub enum Answer {
+    /// The order was carried out.
     Done,
-    /// A charger's order fails by [`PsuError::Charger`] alone, a wait not at all.
+    /// The order failed. A charger's order fails by [`PsuError::Charger`] alone, a wait not at all.
     Failed(PsuError),
 }
 
@@ -156,34 +249,70 @@ impl From<Result<(), ChargerError>> for Answer {
 }
 
 /// An order to a device.
+///
+/// A later version may have more of them, so that a `match` in another crate ends with `_`. What it does not know it does not answer, and the
+/// event stays open:
+///
+/// ```
+/// use power_policy::{Answer, Order};
+///
+/// fn carry_out(order: Order) -> Option<Answer> {
+///     match order {
+///         Order::Disconnect { port } => { /* .. */ Some(Answer::Done) }
+///         Order::Wait { millis } => { /* .. */ Some(Answer::Done) }
+///         // .. and the other six
+///         _ => None,
+///     }
+/// }
+/// assert_eq!(carry_out(Order::Wait { millis: 800 }), Some(Answer::Done));
+/// ```
 #[derive(Clone, Copy, Debug, PartialEq, Eq)]
+#[non_exhaustive]
 pub enum Order {
+    /// Disconnect power from a port.
     Disconnect {
+        /// The port.
         port: u8,
     },
+    /// Connect a port to consume.
     ConnectConsumer {
+        /// The port.
         port: u8,
+        /// What it is to consume.
         capability: ConsumerPowerCapability,
     },
+    /// Connect a port to provide.
     ConnectProvider {
+        /// The port.
         port: u8,
+        /// What it is granted.
         capability: ProviderPowerCapability,
     },
+    /// Make sure that a charger is powered and ready to communicate.
     IsReady {
+        /// The charger.
         charger: u8,
     },
+    /// Initialize a charger.
     InitCharger {
+        /// The charger.
         charger: u8,
     },
+    /// Tell a charger that a consumer is connected.
     Attach {
+        /// The charger.
         charger: u8,
+        /// What the consumer consumes.
         capability: ConsumerPowerCapability,
     },
+    /// Tell a charger that the consumer is disconnected.
     Detach {
+        /// The charger.
         charger: u8,
     },
+    /// Wait.
     Wait {
-        /// [`crate::WAIT_MILLIS`].
+        /// How long: [`crate::WAIT_MILLIS`].
         millis: u16,
     },
 }
@@ -191,9 +320,13 @@ pub enum Order {
 /// The kinds of a PSU's states.
 #[derive(Clone, Copy, Debug, PartialEq, Eq)]
 pub enum StateKind {
+    /// No device is attached.
     Detached = 0,
+    /// A device is attached, and neither consumes nor provides.
     Idle = 1,
+    /// A device is provided.
     ConnectedProvider = 2,
+    /// A device is consumed from.
     ConnectedConsumer = 3,
 }
 
@@ -214,6 +347,13 @@ impl StateKind {
 pub struct StateSet(pub u8);
 
 impl StateSet {
+    /// Whether a state is in the set.
+    ///
+    /// ```
+    /// use power_policy::{StateKind, StateSet};
+    ///
+    /// assert!(StateSet(6).contains(StateKind::Idle) && !StateSet(6).contains(StateKind::Detached));
+    /// ```
     pub fn contains(self, kind: StateKind) -> bool {
         self.0 >> kind as u8 & 1 == 1
     }
@@ -222,6 +362,7 @@ impl StateSet {
 /// How an event closed.
 #[derive(Clone, Copy, Debug, PartialEq, Eq)]
 pub struct Outcome {
+    /// How it ended.
     pub end: End,
     /// How many orders the event has given, 0 to 35, a failed one too; 0 for a charger's event.
     pub orders: u8,
@@ -230,12 +371,15 @@ pub struct Outcome {
 /// How an event ended.
 #[derive(Clone, Copy, Debug, PartialEq, Eq)]
 pub enum End {
+    /// Without an error.
     Done,
     /// By the error of a device.
     Failed(PsuError),
     /// A port was not in one of the states that a connection needs.
     WrongState {
+        /// The states that it needs.
         expected: StateSet,
+        /// The state that the port was in.
         actual: StateKind,
     },
 }
@@ -245,12 +389,14 @@ pub enum End {
 pub enum Reply {
     /// It waits for the answer to this order.
     Order(Order),
+    /// It is closed.
     Closed(Outcome),
 }
 
 /// What a follower shows.
 #[derive(Clone, Copy, Debug, PartialEq, Eq)]
 pub enum Shown {
+    /// Nothing, until a full picture comes.
     Lost,
     /// Nothing is held.
     Level(Figures),
@@ -258,18 +404,23 @@ pub enum Shown {
     Waiting(Figures),
 }
 
+/// What a follower shows besides the consumer and the tracked ports.
 #[derive(Clone, Copy, Debug, PartialEq, Eq)]
 pub struct Figures {
     /// The number of the event shown.
     pub number: u32,
+    /// Whether the consumer is unconstrained.
     pub unconstrained: bool,
+    /// How many unconstrained consumers are available, 0 to 16.
     pub available: u8,
 }
 
 /// A consumer shown.
 #[derive(Clone, Copy, Debug, PartialEq, Eq)]
 pub struct Consumer {
+    /// Its port.
     pub port: u8,
+    /// What it consumes.
     pub capability: ConsumerPowerCapability,
 }
 
@@ -278,17 +429,23 @@ pub struct Consumer {
 pub struct Tracked(pub u16);
 
 impl Tracked {
+    /// Whether a port is tracked.
     pub fn contains(self, port: u8) -> bool {
         u32::from(self.0)
             .checked_shr(port.into())
             .is_some_and(|ports| ports & 1 == 1)
     }
 
+    /// How many are tracked, 0 to 4.
     pub fn count(self) -> u32 {
         self.0.count_ones()
     }
 
     /// The ports, rising.
+    ///
+    /// ```
+    /// assert!(power_policy::Tracked(0x8001).ports().eq([0, 15]));
+    /// ```
     pub fn ports(self) -> impl Iterator<Item = u8> {
         (0..16).filter(move |port| self.contains(*port))
     }
@@ -421,7 +578,8 @@ mod tests {
 
     #[test]
     fn refusals_by_number() {
-        for (number, refusal) in (20..).zip(Refusal::ALL) {
+        assert_eq!(Refusal::ALL.len(), 14);
+        for (number, refusal) in (20..).zip(Refusal::ALL.iter().copied()) {
             assert_eq!(refusal.number(), number);
             let result = u64::from(number) << 8;
             let refused = Error::Refused(refusal);
@@ -470,6 +628,7 @@ mod tests {
         assert!(StateSet(10).contains(StateKind::Idle));
         assert!(!StateSet(10).contains(StateKind::Detached));
         assert_eq!(reply(0x0B02), Err(Error::Unknown(0x0B02)));
+        assert_eq!(written(0xFF03), Ok(255));
     }
 
     #[test]

@@ -112,7 +112,7 @@ impl Devices for Bench {
         self.order(format!("wait {millis}")).await;
     }
 
-    fn records(&self, records: &mut Records) {
+    async fn records(&mut self, records: &mut Records) {
         for (port, psu) in (0..).zip(&self.psus) {
             records.set_psu(port, psu);
         }
@@ -208,10 +208,10 @@ fn each_order_fails() {
 
 #[test]
 fn a_wait() {
-    let (mut service, bench) = bench();
+    let (mut service, mut bench) = bench();
     assert_eq!(service.order(), Ok(Reply::Closed(closed(End::Done, 0))));
     let mut records = Records::new(3, 1);
-    bench.records(&mut records);
+    now(bench.records(&mut records));
     service.open(UPDATED, &records).unwrap();
     let Ok(Reply::Order(Order::Wait { millis })) = service.answer(Answer::Done, &records) else {
         panic!("no wait");
@@ -277,12 +277,163 @@ fn refused() {
         Err(Error::Refused(Refusal::Open))
     );
 
-    let mut none = Service::from_image([0; SERVICE_IMAGE]);
-    let outcome = now(run_event(&mut none, &mut bench, UPDATED));
-    assert_eq!(outcome, Err(Error::Refused(Refusal::Image)));
     let mut follower = Follower::start().unwrap();
     assert_eq!(follower.take(&[]), Err(Error::Refused(Refusal::CutShort)));
     assert_eq!(follower.shown(), Ok(Shown::Lost));
+}
+
+/// A service and a follower go on from their images; no other bytes are one.
+#[test]
+fn kept() {
+    let (mut service, mut bench) = bench();
+    let mut records = Records::new(3, 1);
+    now(bench.records(&mut records));
+    let order = service.open(UPDATED, &records).unwrap();
+    let mut again = Service::from_image(service.image()).unwrap();
+    assert_eq!((again.ports(), again.chargers()), (3, 1));
+    assert_eq!(again.order(), Ok(order));
+    let answered = service.answer(Answer::Done, &records);
+    assert_eq!(again.answer(Answer::Done, &records), answered);
+    assert_eq!(again, service);
+
+    let mut follower = Follower::start().unwrap();
+    follower.take(&[2, 7, 0, 0, 0, 0]).unwrap();
+    assert_eq!(Follower::from_image(follower.image()), Ok(follower));
+
+    let none = Err(Error::Refused(Refusal::Image));
+    assert_eq!(Service::from_image(follower.image()), none);
+    assert_eq!(Service::from_image(&[0; SERVICE_IMAGE]), none);
+    let long = [service.image().as_slice(), &[0]].concat();
+    for length in (0..SERVICE_IMAGE).chain([SERVICE_IMAGE + 1]) {
+        assert_eq!(Service::from_image(&long[..length]), none);
+    }
+    let none = Err(Error::Refused(Refusal::Image));
+    assert_eq!(Follower::from_image(service.image()), none);
+    assert_eq!(Follower::from_image(&[0; FOLLOWER_IMAGE]), none);
+    let long = [follower.image().as_slice(), &[0]].concat();
+    for length in (0..FOLLOWER_IMAGE).chain([FOLLOWER_IMAGE + 1]) {
+        assert_eq!(Follower::from_image(&long[..length]), none);
+    }
+
+    // Each byte changed: accepted exactly if the C function does.
+    let mut accepted = 0;
+    for place in 0..SERVICE_IMAGE {
+        let mut image = *service.image();
+        image[place] ^= 1;
+        let read = Service::from_image(&image);
+        assert_eq!(read.is_ok(), ffi::order(&image) as u8 != 0);
+        accepted += usize::from(read.is_ok());
+    }
+    assert!(0 < accepted && accepted < SERVICE_IMAGE);
+}
+
+/// Records that are read only after a while are those of the call.
+#[test]
+fn records_wait() {
+    struct Late(Bench);
+
+    impl Devices for Late {
+        async fn disconnect(&mut self, port: u8) -> Result<(), PsuError> {
+            self.0.disconnect(port).await
+        }
+
+        async fn connect_consumer(
+            &mut self,
+            port: u8,
+            capability: ConsumerPowerCapability,
+        ) -> Result<(), PsuError> {
+            self.0.connect_consumer(port, capability).await
+        }
+
+        async fn connect_provider(
+            &mut self,
+            port: u8,
+            capability: ProviderPowerCapability,
+        ) -> Result<(), PsuError> {
+            self.0.connect_provider(port, capability).await
+        }
+
+        async fn is_ready(&mut self, charger: u8) -> Result<(), ChargerError> {
+            self.0.is_ready(charger).await
+        }
+
+        async fn init_charger(&mut self, charger: u8) -> Result<(), ChargerError> {
+            self.0.init_charger(charger).await
+        }
+
+        async fn attach_handler(
+            &mut self,
+            charger: u8,
+            capability: ConsumerPowerCapability,
+        ) -> Result<(), ChargerError> {
+            self.0.attach_handler(charger, capability).await
+        }
+
+        async fn detach_handler(&mut self, charger: u8) -> Result<(), ChargerError> {
+            self.0.detach_handler(charger).await
+        }
+
+        async fn wait(&mut self, millis: u64) {
+            self.0.wait(millis).await;
+        }
+
+        async fn records(&mut self, records: &mut Records) {
+            self.0.order("records".to_string()).await;
+            self.0.records(records).await;
+        }
+    }
+
+    let (mut service, bench) = bench();
+    let mut late = Late(bench);
+    {
+        let mut event = pin!(run_event(&mut service, &mut late, UPDATED));
+        let polled = event.as_mut().poll(&mut Context::from_waker(Waker::noop()));
+        assert!(polled.is_pending());
+    }
+    // Dropped before its records were there, the event was not opened.
+    assert_eq!(service.order(), Ok(Reply::Closed(closed(End::Done, 0))));
+    late.0.orders.clear();
+    assert_eq!(
+        now(run_event(&mut service, &mut late, UPDATED)),
+        Ok(closed(End::Done, 5))
+    );
+    let read = |order: &&String| order.as_str() == "records";
+    assert_eq!(late.0.orders.iter().filter(read).count(), 6);
+}
+
+#[test]
+fn configurations() {
+    let granted = |current_ma| PowerCapability {
+        voltage_mv: 5000,
+        current_ma,
+    };
+    let original = Config::new(15000, granted(3000), granted(1500), None);
+    assert_eq!(Config::rust_default(), original);
+    // A minimum of 15,001 mW leaves no consumer of 15,000.
+    let (_, mut bench) = bench();
+    let mut config = Config::default();
+    config.min_consumer_threshold_mw = Some(15001);
+    let mut service = Service::start(3, 1, &config).unwrap();
+    assert_eq!(
+        now(run_event(&mut service, &mut bench, UPDATED)),
+        Ok(closed(End::Done, 0))
+    );
+}
+
+#[test]
+fn words() {
+    let error: &dyn std::error::Error = &Error::Refused(Refusal::Device);
+    assert_eq!(
+        error.to_string(),
+        "refused with 23: a port or charger that is not registered"
+    );
+    for refusal in Refusal::ALL {
+        assert_eq!(refusal.to_string(), refusal.text());
+        let same = |other: &&Refusal| other.text() == refusal.text();
+        assert_eq!(Refusal::ALL.iter().filter(same).count(), 1);
+    }
+    assert!(Error::Unknown(8).to_string().starts_with("unknown result"));
+    assert_eq!(ChargerError.to_string(), PsuError::Charger.to_string());
 }
 
 #[test]
