@@ -4,7 +4,7 @@
 # Packets a second of `follow` against the model's `follow`, on one stream: picture 0 and EVENTS events (1,000,000 if not given) without an error, each
 # applied at once. Then the same of as many packets that are refused at their first byte, which leaves framing and a line: the difference is
 # reading a packet, taking it and the rest of its line. Both read the same file and write to /dev/null, in turn, five times each; the least user time
-# of each counts, so that time in the system's calls (`follow` makes one for each line) does not. Needs target/bin/follow and cargo.
+# of each counts, so that time in the system's calls does not. Needs target/bin/follow and cargo.
 set -eu
 cd "$(dirname "$0")/.."
 events=${1:-1000000}

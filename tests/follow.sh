@@ -2,7 +2,8 @@
 # usage: follow.sh
 #
 # What the program `follow` does with its input and output, which no contract speaks of: nothing on standard error where all goes well, a message where standard
-# output takes no more or standard input cannot be read, and the same lines however the input comes in. Needs target/bin/follow (rt check follow).
+# output takes no more or standard input cannot be read or there are arguments, the same lines however the input comes in, and each line before the next
+# packet is waited for. Needs target/bin/follow (rt check follow).
 # Writes a line for each test that fails and, last, 'N passed, M failed'.
 set -u
 cd "$(dirname "$0")/.." || exit 2
@@ -52,10 +53,75 @@ while [ "$i" -lt 128 ]; do
 done >"$work/pictures"
 for _ in 1 2 3 4 5 6 7 8; do cat "$work/pictures"; done >"$work/long"
 "$follow" <"$work/long" >"$work/out" 2>"$work/err"
-tail -n 1 "$work/out" >"$work/last"
-echo "1024 127 level - -" >"$work/expected"
-same "a long stream" "$work/expected" "$work/last"
+awk 'BEGIN { print "take shown state port mw"; for (k = 1; k <= 1024; k++) print k, (k < 128 ? k - 1 : 127), "level - -" }' >"$work/expected"
+same "a long stream, and more lines than are collected at once" "$work/expected" "$work/out"
 same "nothing on standard error after a long stream" "$work/none" "$work/err"
+{ cat "$work/long"; printf '\101'; } | "$follow" >"$work/out" 2>"$work/err"
+echo "1025 refused 32" >>"$work/expected"
+same "a long stream that a refused length stops" "$work/expected" "$work/out"
+same "nothing on standard error after a refused length" "$work/none" "$work/err"
+
+# with arguments, an empty one too, nothing is read or written
+printf 'follow: takes no arguments; packets come on standard input\n' >"$work/arguments"
+for argument in crates/follow/stdin --help ''; do
+    { "$follow" "$argument" >"$work/out" 2>"$work/err"; cat >"$work/rest"; } <crates/follow/stdin
+    same "nothing is written with an argument ($argument)" "$work/none" "$work/out"
+    same "the message about an argument ($argument)" "$work/arguments" "$work/err"
+    same "nothing is read with an argument ($argument)" crates/follow/stdin "$work/rest"
+done
+
+# A desk at the other end of two pipes: 3 is the program's input, 4 its output. A line that does not come within ten seconds is missing.
+mkfifo "$work/in" "$work/lines"
+found() { timeout 10 dd bs=65536 count=1 <&4 2>"$work/dd"; }
+"$follow" <"$work/in" >"$work/lines" 2>"$work/err" &
+program=$!
+exec 3>"$work/in" 4<"$work/lines"
+found >"$work/first"
+head -c 7 crates/follow/stdin >&3
+found >"$work/second"
+head -c 13 crates/follow/stdin | tail -c 6 >&3
+found >"$work/third"
+tail -c 34 crates/follow/stdin >&3
+found >"$work/fourth"
+[ ! -r /proc/self/io ] || writes=$(sed -n 's/^syscw: //p' "/proc/$program/io")
+exec 3>&-
+found >"$work/fifth"
+exec 4<&-
+wait "$program"
+sed -n 1p crates/follow/stdout >"$work/expected"
+same "the header before the first packet" "$work/expected" "$work/first"
+sed -n 2p crates/follow/stdout >"$work/expected"
+same "a line before the next packet" "$work/expected" "$work/second"
+sed -n 3p crates/follow/stdout >"$work/expected"
+same "the next line before the one after it" "$work/expected" "$work/third"
+sed -n 4,6p crates/follow/stdout >"$work/expected"
+same "the lines of packets that come together" "$work/expected" "$work/fourth"
+if [ -r /proc/self/io ]; then
+    echo 1 >"$work/expected"
+    echo "$((writes <= 4))" >"$work/few"
+    same "the header and three writes: one for packets that come together" "$work/expected" "$work/few"
+fi
+same "nothing at the end of the input" "$work/none" "$work/fifth"
+same "nothing on standard error between packets" "$work/none" "$work/err"
+
+# The reader goes away after the header, and no signal says so: the program ends at its next write, though its input stays open.
+for packets in pictures long; do
+    (
+        trap '' PIPE
+        exec timeout 10 "$follow" <"$work/in" >"$work/lines" 2>"$work/err"
+    ) &
+    program=$!
+    exec 3>"$work/in" 4<"$work/lines"
+    found >"$work/first"
+    exec 4<&-
+    cat "$work/$packets" >&3
+    wait "$program"
+    echo "$?" >"$work/status"
+    exec 3>&-
+    same "an output that nobody reads any more ($packets)" "$work/unwritten" "$work/err"
+    echo 0 >"$work/expected"
+    same "an end at once where nobody reads any more ($packets)" "$work/expected" "$work/status"
+done
 
 if [ -c /dev/full ]; then
     "$follow" <crates/follow/stdin >/dev/full 2>"$work/err"

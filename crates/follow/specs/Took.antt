@@ -7,6 +7,7 @@ use lib.Seq.{slice}
 use Rattle.desk_report.specs.Reads.{Turn, start, goOn, stop, takeAll, reads}
 use Rattle.desk_report.specs.declared.desk.Desk.{Desk}
 use Rattle.follow.specs.declared.Go.{Go}
+use Rattle.follow.specs.Held.{heldAll}
 
 -- a turn, but for what was written
 abbrev pub left : Turn → Turn
@@ -19,7 +20,13 @@ Took d s e kept Go.On = left (takeAll d s) ≡ goOn e kept
 Took d s e kept Go.Stop = left (takeAll d s) ≡ stop e
 Took d s e kept Go.Fail = Unit {0}
 
--- the same where some bytes c were read after the bytes k; the end of the input stops too
+-- the lines that stand in the buffer then
+abbrev pub Collected : Desk → List ℕ → List ℕ → Go → Type 0
+Collected d s b Go.On = b ≡ heldAll d s
+Collected d s b Go.Stop = b ≡ heldAll d s
+Collected d s b Go.Fail = Unit {0}
+
+-- `Took` where some bytes c were read after the bytes k; the end of the input stops too
 abbrev pub Read : Desk → List ℕ → Desk → List ℕ → Go → Type 0
 Read d k e kept Go.On = (c : List ℕ) × (left (takeAll d (k ++ c)) ≡ goOn e kept)
 Read d k e kept Go.Stop = Unit {0}

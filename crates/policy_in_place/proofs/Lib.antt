@@ -1,7 +1,13 @@
+pub mod AtPlace
 pub mod ByValue
 pub mod Data
+pub mod Figures
 pub mod InPlace
 pub mod InPlaceAlone
 pub mod Looked
+pub mod Past
 pub mod Replaced
+pub mod Same
+pub mod Summed
 pub mod Types
+pub mod Word

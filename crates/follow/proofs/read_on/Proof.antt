@@ -78,9 +78,9 @@ same-length-3 c = search needs
 
 returns-3 : tie.Need-returns-3
 returns-3 c =
-    let x = c .before .before .before .before .before .before .before .before .before .before .before .before .before .before .args in
+    let x = c .before .before .before .before .before .before .before .before .before .before .before .before .before .before .before .args in
     let t = c .before .before .take-front in
-    let h : x .have ≤ length (now (x .input)) = omega (arith, c .before .before .before .before .before .before .before .before .before .before .before .before .before .before .pre) in
+    let h : x .have ≤ length (now (x .input)) = omega (arith, c .before .before .before .before .before .before .before .before .before .before .before .before .before .before .before .pre) in
     (t .ensures .0, search needs, read-after (x .desk) (t .result .desk) (now (x .input)) _ (x .have) _ _ (t .result .go) (t .ensures .2) (take-at (take (x .have) (now (x .input))) _ (x .have) (length-take-le (x .have) (now (x .input)) h)))
 
 pub read-on-spec : {M : Type 1} → statement M

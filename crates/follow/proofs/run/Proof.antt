@@ -12,10 +12,10 @@ use Rattle.follow.proofs.run.Statement.{statement}
 use Rattle.follow.proofs.run.Tie as tie
 
 abbrev Inv-loop : tie.InvT-loop
-Inv-loop input₀ desk₀ have₀ turns₀ input desk have turns = (have ≤ 68) × (length input ≡ length input₀) × Stands desk (take have input)
+Inv-loop input₀ out₀ desk₀ have₀ turns₀ input out desk have turns = (have ≤ 68) × (length input ≡ length input₀) × Stands desk (take have input)
 
 abbrev μ-loop : tie.MeasureT-loop
-μ-loop input₀ desk₀ have₀ turns₀ input desk have turns = turns
+μ-loop input₀ out₀ desk₀ have₀ turns₀ input out desk have turns = turns
 
 new-requires : tie.Need-new-requires Inv-loop μ-loop
 new-requires c κs = search needs
@@ -37,7 +37,7 @@ loop-less c = search needs
 
 loop-again : tie.Need-loop-again Inv-loop μ-loop
 loop-again c =
-    let l = c .before .before .before .before .before .before .before .before .loop in
+    let l = c .before .before .before .before .before .before .before .before .before .loop in
     let r = c .before .before .before .before .before .read-on in
     let t = rw (c .before .enum-told .given .1) at (r .ensures .2) in
     (search needs, search needs, stands-on (l .desk) (r .result .desk) (take (l .have) (l .input)) (take (r .result .have) (r .last .1 .0)) (l .inv .2) t)

@@ -20,31 +20,44 @@ slice-aggregate-take-all c = sym (length-take-le (c .before .before .args .to) (
 take-all-requires : tie.Need-take-all-requires
 take-all-requires c κs = search needs
 
+write-out-requires : tie.Need-write-out-requires
+write-out-requires c κs = search needs
+
+fail-requires : tie.Need-fail-requires
+fail-requires c κs = search needs
+
+same-length : tie.Need-same-length
+same-length c = search needs
+
+returns : tie.Need-returns
+returns c = rw (c .fail .ensures .2, c .fail .ensures .1) (omega arith, refl, tt)
+
 enum-told : tie.Need-enum-told
 enum-told c = search needs
 
 keep-requires : tie.Need-keep-requires
 keep-requires c κs =
-    let x = c .before .before .before .before .before .before .before .args in
-    let h : x .to ≤ length (now (x .input)) = c .before .before .before .before .before .before .before .pre in
-    (omega (arith, c .before .before .before .before .take-all .ensures .0, length-take-le (x .to) (now (x .input)) h), h)
+    let x = c .before .before .before .before .before .before .before .before .before .before .before .before .args in
+    let r = c .before .before .before .before .before .before .before .before .take-all in
+    let h : x .to ≤ length (now (x .input)) = c .before .before .before .before .before .before .before .before .before .before .before .before .pre in
+    (omega (arith, r .ensures .0, length-take-le (x .to) (now (x .input)) h), h)
 
-same-length : tie.Need-same-length
-same-length c =
-    let x = c .before .before .before .before .before .before .before .before .before .before .args in
-    let r = c .before .before .before .before .before .before .before .take-all in
-    let h : x .to ≤ length (now (x .input)) = c .before .before .before .before .before .before .before .before .before .before .pre in
+same-length-2 : tie.Need-same-length-2
+same-length-2 c =
+    let x = c .before .before .before .before .before .before .before .before .before .before .before .before .before .before .before .args in
+    let r = c .before .before .before .before .before .before .before .before .before .before .before .take-all in
+    let h : x .to ≤ length (now (x .input)) = c .before .before .before .before .before .before .before .before .before .before .before .before .before .before .before .pre in
     let f : r .result .used ≤ x .to = omega (arith, r .ensures .0, length-take-le (x .to) (now (x .input)) h) in
     rw (c .before .before .keep .ensures .1) (moved-length (r .result .used) (x .to) (now (x .input)) f h)
 
-returns : tie.Need-returns
-returns c =
-    let x = c .before .before .before .before .before .before .before .before .before .before .args in
-    let r = c .before .before .before .before .before .before .before .take-all in
+returns-2 : tie.Need-returns-2
+returns-2 c =
+    let x = c .before .before .before .before .before .before .before .before .before .before .before .before .before .before .before .args in
+    let r = c .before .before .before .before .before .before .before .before .before .before .before .take-all in
+    let h : x .to ≤ length (now (x .input)) = c .before .before .before .before .before .before .before .before .before .before .before .before .before .before .before .pre in
     let k = c .before .before .keep in
-    let h : x .to ≤ length (now (x .input)) = c .before .before .before .before .before .before .before .before .before .before .pre in
     let f : r .result .used ≤ x .to = omega (arith, r .ensures .0, length-take-le (x .to) (now (x .input)) h) in
-    let t = rw (c .before .before .before .before .enum-told .given .1) at (r .ensures .1) in
+    let t = rw (c .before .before .before .before .enum-told .given .1) at (r .ensures .2) in
     kept-front (x .desk) (r .result .desk) (now (x .input)) (k .last .0) (r .result .used) (x .to) (k .result) f h t (k .ensures .0) (k .ensures .1)
 
 enum-told-2 : tie.Need-enum-told-2
@@ -53,29 +66,26 @@ enum-told-2 c = search needs
 stop-requires : tie.Need-stop-requires
 stop-requires c κs = search needs
 
-same-length-2 : tie.Need-same-length-2
-same-length-2 c = search needs
+same-length-3 : tie.Need-same-length-3
+same-length-3 c = search needs
 
-returns-2 : tie.Need-returns-2
-returns-2 c =
-    let r = c .before .before .before .before .take-all in
-    let t = rw (c .before .enum-told2 .given .1) at (r .ensures .1) in
+returns-3 : tie.Need-returns-3
+returns-3 c =
+    let r = c .before .before .before .before .before .before .before .before .take-all in
+    let t = rw (c .before .enum-told2 .given .1) at (r .ensures .2) in
     rw (c .stop .ensures .2, c .stop .ensures .0, c .stop .ensures .1) (omega arith, refl, t)
 
 enum-told-3 : tie.Need-enum-told-3
 enum-told-3 c = search needs
 
-unwritten-requires : tie.Need-unwritten-requires
-unwritten-requires c κs = search needs
+fail-requires-2 : tie.Need-fail-requires-2
+fail-requires-2 c κs = search needs
 
-stop-requires-2 : tie.Need-stop-requires-2
-stop-requires-2 c κs = search needs
+same-length-4 : tie.Need-same-length-4
+same-length-4 c = search needs
 
-same-length-3 : tie.Need-same-length-3
-same-length-3 c = search needs
-
-returns-3 : tie.Need-returns-3
-returns-3 c = rw (c .stop2 .ensures .2, c .stop2 .ensures .1) (omega arith, refl, tt)
+returns-4 : tie.Need-returns-4
+returns-4 c = rw (c .fail2 .ensures .2, c .fail2 .ensures .1) (omega arith, refl, tt)
 
 pub take-front-spec : {M : Type 1} → statement M
 take-front-spec =
@@ -84,16 +94,19 @@ take-front-spec =
     slice-reshare-prefix-take-all
     slice-aggregate-take-all
     take-all-requires
-    enum-told
-    keep-requires
+    write-out-requires
+    fail-requires
     same-length
     returns
-    enum-told-2
-    stop-requires
+    enum-told
+    keep-requires
     same-length-2
     returns-2
-    enum-told-3
-    unwritten-requires
-    stop-requires-2
+    enum-told-2
+    stop-requires
     same-length-3
-    returns-3)
+    returns-3
+    enum-told-3
+    fail-requires-2
+    same-length-4
+    returns-4)

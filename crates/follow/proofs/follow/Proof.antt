@@ -5,8 +5,8 @@ use lib.ListN.{replicate}
 use Rattle.desk_report.specs.Text.{header}
 use Rattle.desk_report.proofs.Lengths.{in-buffer}
 use borrow.Author.Needs.{needs}
-use Rattle.follow.proofs.main.Statement.{statement}
-use Rattle.follow.proofs.main.Tie as tie
+use Rattle.follow.proofs.follow.Statement.{statement}
+use Rattle.follow.proofs.follow.Tie as tie
 
 write-header-requires : tie.Need-write-header-requires
 write-header-requires c κs = search needs
@@ -37,8 +37,8 @@ run-requires c κs = search needs
 returns-2 : tie.Need-returns-2
 returns-2 c = search needs
 
-pub main-spec : {M : Type 1} → statement M
-main-spec =
+pub follow-spec : {M : Type 1} → statement M
+follow-spec =
     tie.close
     (tie.spec
     write-header-requires

@@ -1,7 +1,7 @@
 -- By cases on the capability.
 use borrow.Author.Needs.{needs}
-use Rattle.provider_totals.proofs.milliwatts.Statement.{statement}
-use Rattle.provider_totals.proofs.milliwatts.Tie as tie
+use Rattle.policy_in_place.proofs.totals.milliwatts.Statement.{statement}
+use Rattle.policy_in_place.proofs.totals.milliwatts.Tie as tie
 
 enum-told : tie.Need-enum-told
 enum-told c = search needs

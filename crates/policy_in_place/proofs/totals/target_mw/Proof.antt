@@ -1,8 +1,8 @@
 -- The test is the definition's.
 use borrow.Author.Tests.{eq-eqb, ne-eqb}
 use borrow.Author.Needs.{needs}
-use Rattle.provider_totals.proofs.target_mw.Statement.{statement}
-use Rattle.provider_totals.proofs.target_mw.Tie as tie
+use Rattle.policy_in_place.proofs.totals.target_mw.Statement.{statement}
+use Rattle.policy_in_place.proofs.totals.target_mw.Tie as tie
 
 max-power-mw-requires : tie.Need-max-power-mw-requires
 max-power-mw-requires c κs = search needs

@@ -1,4 +1,6 @@
--- The law of Summed, of a function that is handed with each element its place and two arguments, a byte and an X.
+-- A row of records lent by `&` is summed: for each of the first sixteen elements a function by value is called, with the element, its place and two arguments, a byte and an X, and the
+-- figures that it returns are added up. For every such function, the result is the sum of what it returns. The borrow is opened once, before the loop; after i turns the local holds the
+-- sum over the first i elements.
 use mathlib.Core.Path.{_≡_, refl, ap, sym, subst, _∙_}
 use mathlib.Core.Bool.{Bool}
 use Prim.Native.Nat.{ℕ, zero, suc, _+_, _*_, _^_, _<_, _≤_, min}
@@ -49,11 +51,11 @@ use denote.Triple.Spec.{Meets, tripleOf}
 use denote.Triple.Table.{entered, cited}
 use denote.Triple.Walked.{Stays, stay-none, stay-none-slice, walkOf, goes-none, goes-none-slice, ends-at, walked, walk-meets}
 use Rattle.power_policy_service.specs.Provider.{sumTo}
 use Rattle.policy_in_place.proofs.ByValue.{byValue, says, ByValue, handed, hands, hears, beside}
 use Rattle.policy_in_place.proofs.Data.{Data, row}
-use Rattle.provider_totals.proofs.Figures.{goes-on, ends-there, below-16, within, next-fits, place-fits, figure-fits, sum-fits, sum-grows, total-fits, offset-fits}
-use Rattle.provider_totals.proofs.Word.{word}
-use Rattle.provider_totals.proofs.AtPlace.{atPlace, saysAt, AtPlace, handedAt, handsAt, hearsAt}
+use Rattle.policy_in_place.proofs.Figures.{goes-on, ends-there, below-16, within, next-fits, place-fits, figure-fits, sum-fits, sum-grows, total-fits, offset-fits}
+use Rattle.policy_in_place.proofs.Word.{word}
+use Rattle.policy_in_place.proofs.AtPlace.{atPlace, saysAt, AtPlace, handedAt, handsAt, hearsAt}
 
 module _ (S X : Data) where
   abbrev lent : Ended
@@ -293,11 +295,11 @@ module _ (S X : Data) where
             by ! (summing 𝓣 f known q′ l₀ l₁ l₂ l₃ l₄ l₅ l₆ l₇ l₈ l₉ l₁₀ l₁₁ l₁₂ l₁₃))))))))))))))))))))
 
     -- the law, at the entry k of an environment γ whose code is the one above
-    pub summed-with : (𝓜 : Model 𝓤 H) (𝓖 : GhostRules 𝓤 H) (𝓡 : Running 𝓤 H 𝓜) (c : Clauses 𝓤 lent) → Keeps c → (γ : Env) (k p f : Name) → Closed 𝓤 H (tables 𝓤 H 𝓜 𝓡 γ .C) (tables 𝓤 H 𝓜 𝓡 γ .Λ) k (function p f)
+    pub summed : (𝓜 : Model 𝓤 H) (𝓖 : GhostRules 𝓤 H) (𝓡 : Running 𝓤 H 𝓜) (c : Clauses 𝓤 lent) → Keeps c → (γ : Env) (k p f : Name) → Closed 𝓤 H (tables 𝓤 H 𝓜 𝓡 γ .C) (tables 𝓤 H 𝓜 𝓡 γ .Λ) k (function p f)
         → (r g : Routine) → γ p ≡ r → Triple 𝓤 (𝓡 .run r) (ByValue word usize (min 16) 𝓤 H (𝓖 .A)) → γ f ≡ g → Triple 𝓤 (𝓡 .run g) (AtPlace S X G 𝓤 H (𝓖 .A))
         → Meets 𝓤 H (𝓖 .A) (lent .signature) (𝓡 .run (γ k)) (closing 𝓤 H (𝓖 .A) lent c)
     unfolding tablesOf
-    summed-with 𝓜 𝓖 𝓡 c kept γ k p f closed r g is-r counts is-g known =
+    summed 𝓜 𝓖 𝓡 c kept γ k p f closed r g is-r counts is-g known =
         let A : Atoms 𝓤 = 𝓖 .A in
         let W : Given 𝓤 H (𝓖 .A) = givenOf 𝓤 H 𝓜 𝓖 in
         let 𝓣 : Tables 𝓤 H = tablesOf 𝓤 H 𝓜 (tables 𝓤 H 𝓜 𝓡 γ) in

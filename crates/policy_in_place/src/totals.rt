@@ -2,11 +2,13 @@
 // definitions the contracts cite, with the row lent and not copied. Only the first 16 records count, as no more ports are
 // registered; in 64 bits no sum of 16 figures can overflow.
 use power_policy_interface::capability::OptionProviderPowerCapability;
+use power_policy_interface::capability::PowerCapability;
 use power_policy_interface::capability::ProviderPowerCapability;
 use power_policy_interface::psu::State;
 ghost use mathlib.Core.Path.{_≡_};
 ghost use Prim.Native.Nat.{min};
 ghost use lib.ListN.{length};
+ghost use Rattle.power_policy_interface.specs.declared.capability.OptionPsuType.{OptionPsuType};
 ghost use Rattle.power_policy_service.specs.Provider.{providedMw, connectedMw, totalOf, requestedMw, totalWith};
 
 // How many records of a row count.
@@ -49,21 +51,7 @@ fn target_mw(s: State, port: usize, requester: u8, request: ProviderPowerCapabil
     connected_mw(s)
 }
 
-// The total amount of power that is being supplied to external devices.
-pub fn total(psus: &[State]) -> u64
-    ensures { λ r. ⌜ r ≡ totalOf (now (psus .entry)) (min 16 (length (now (psus .entry)))) ⌝ }
-{
-    let n = ports(psus.len());
-    let mut total: u64 = 0;
-    let mut i: usize = 0;
-    while i < n {
-        total += connected_mw(psus[i]) as u64;
-        i += 1;
-    }
-    total
-}
-
-// The same with the requester's request in the place of its contract.
+// The total amount of power that is being supplied to external devices, with the requester's request in the place of its contract.
 pub fn total_with_request(psus: &[State], requester: u8, request: ProviderPowerCapability) -> u64
     ensures { λ r. ⌜ r ≡ totalWith requester request (now (psus .entry)) (min 16 (length (now (psus .entry)))) ⌝ }
 {
@@ -75,4 +63,21 @@ pub fn total_with_request(psus: &[State], requester: u8, request: ProviderPowerC
         i += 1;
     }
     total
+}
+
+// A request of no power.
+fn no_request() -> ProviderPowerCapability
+    ensures { λ r. ⌜ r ≡ record { capability = record { «voltage_mv» = 0; «current_ma» = 0 }; flags = record { «psu_type» = OptionPsuType.None } } ⌝ }
+{
+    ProviderPowerCapability::from(PowerCapability {
+        voltage_mv: 0,
+        current_ma: 0,
+    })
+}
+
+// The same where nobody requests: ports are 0 to 15.
+pub fn total(psus: &[State]) -> u64
+    ensures { λ r. ⌜ r ≡ totalOf (now (psus .entry)) (min 16 (length (now (psus .entry)))) ⌝ }
+{
+    total_with_request(psus, 16, no_request())
 }
