@@ -19,7 +19,7 @@ use Rattle.interface_display.specs.declared.packet.Packet.{Packet}
 use Rattle.abstract_policy.specs.Refusals.{firstRefused}
 use Rattle.abstract_policy.proofs.First.{first}
 use Rattle.wire.specs.Number.{digitBefore, digitsRead, within, readNumber}
-use Rattle.wire.specs.Packet.{consumerFlagsGiven, providerFlagsGiven, reasonGiven, capability, consumer, unconstrained, consumerDisconnected, consumerConnected, providerDisconnected, providerConnected, unconstrainedChanged, noticeKinds, noticeOf, notice, notices, ports, eventNotices, eventAfter, event, consumerGiven, pictureAfter, picture, packetOf, packet}
+use Rattle.wire.specs.Packet.{consumerFlagsGiven, providerFlagsGiven, reasonGiven, capability, contract, consumer, unconstrained, consumerDisconnected, consumerConnected, providerDisconnected, providerConnected, unconstrainedChanged, noticeKinds, noticeOf, notice, notices, ports, eventNotices, eventAfter, event, consumerGiven, pictureAfter, picture, packetOf, packet}
 use Rattle.wire.specs.Parser.{Parsed, refused, parsed, Parser, then, wrong, holds, byte, end, field, numberRest, number}
 use Rattle.wire.specs.Read.{packetRead, readPacket}
 use Rattle.wire.specs.declared.number.ReadNumber.{ReadNumber}
@@ -130,13 +130,17 @@ capability-met : (s : List ℕ) → Met (capability s)
 unfolding capability
 capability-met s = then-met (number 65535 s) _ (number-met 65535 s) (λ v r. then-met (number 65535 r) _ (number-met 65535 r) (λ a q. tt))
 
+contract-met : (s : List ℕ) → Met (contract s)
+unfolding contract
+contract-met s =
+    then-met (field 15 s) _ (field-met 15 s)
+    (λ p s1. then-met (capability s1) _ (capability-met s1) (λ c s2. then-met (byte s2) _ (byte-met s2) (λ b s3. tt)))
+
 consumer-met : (s : List ℕ) → Met (consumer s)
 unfolding consumer
 consumer-met s =
-    then-met (field 15 s) _ (field-met 15 s)
-    (λ p s1. then-met (capability s1) _ (capability-met s1)
-    (λ c s2. then-met (byte s2) _ (byte-met s2)
-    (λ b s3. then-met (consumerFlagsGiven (consumerFlagsFrom b) s3) _ (consumer-flags-met (consumerFlagsFrom b) s3) (λ f s4. tt))))
+    then-met (contract s) _ (contract-met s)
+    (λ c r. then-met (consumerFlagsGiven (consumerFlagsFrom (c .flags)) r) _ (consumer-flags-met (consumerFlagsFrom (c .flags)) r) (λ f q. tt))
 
 unconstrained-met : (s : List ℕ) → Met (unconstrained s)
 unfolding unconstrained
@@ -159,10 +163,8 @@ provider-disconnected-met s = then-met (field 15 s) _ (field-met 15 s) (λ p r. 
 provider-connected-met : (s : List ℕ) → Met (providerConnected s)
 unfolding providerConnected
 provider-connected-met s =
-    then-met (field 15 s) _ (field-met 15 s)
-    (λ p s1. then-met (capability s1) _ (capability-met s1)
-    (λ c s2. then-met (byte s2) _ (byte-met s2)
-    (λ b s3. then-met (providerFlagsGiven (providerFlagsFrom b) s3) _ (provider-flags-met (providerFlagsFrom b) s3) (λ f s4. tt))))
+    then-met (contract s) _ (contract-met s)
+    (λ c r. then-met (providerFlagsGiven (providerFlagsFrom (c .flags)) r) _ (provider-flags-met (providerFlagsFrom (c .flags)) r) (λ f q. tt))
 
 unconstrained-changed-met : (s : List ℕ) → Met (unconstrainedChanged s)
 unfolding unconstrainedChanged

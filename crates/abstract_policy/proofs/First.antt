@@ -1,7 +1,7 @@
 -- The first condition that holds has the first number that applies, since those after it have later places. The lists of each call go by the order, whatever it is
 -- given: their numbers are written out.
 use Prim.Native.Nat.{ℕ, suc, _+_, _<_, _≤_}
-use mathlib.Core.Bool.{Bool, true, false, cond, _&&_}
+use mathlib.Core.Bool.{Bool, true, false, cond}
 use mathlib.Core.List.{List, [], _∷_}
 use mathlib.Core.Logic.{inl, inr, ⊎-elim, _↔_}
 use mathlib.Core.Path.{_≡_, refl, sym, ap, _∙_, subst}
@@ -9,17 +9,10 @@ use native.Mathlib.Omega.{arith}
 use lib.Dec.{ltb, eqb}
 use lib.ListN.{length}
 use borrow.Author.Tests.{ltb-true, eqb-true, eqb-false}
+use Rattle.power_policy_interface.proofs.Conjunction.{and-left, and-right}
 use Rattle.power_policy_service.specs.declared.config.OptionConfig.{OptionConfig}
 use Rattle.abstract_policy.specs.Refusals.{firstRefused, order, placeFrom, rank, ascendsFrom, Ascending, Applies, First, Base, Lowest, startRefusals, openConditions, answerConditions, packetConditions, pictureConditions}
 use Rattle.abstract_policy.specs.declared.order.OptionOrder.{OptionOrder}
-
-both-left : (a b : Bool) → a && b ≡ true → a ≡ true
-both-left true b e = refl
-both-left false b e = e
-
-both-right : (a b : Bool) → a && b ≡ true → b ≡ true
-both-right true b e = e
-both-right false b e = absurd (eqb-false 0 0 (sym e) refl)
 
 not-both : {A : Type 0} (b : Bool) → b ≡ true → b ≡ false → A
 not-both b e f = absurd (eqb-false 0 0 (sym e ∙ f) refl)
@@ -28,20 +21,20 @@ not-both b e f = absurd (eqb-false 0 0 (sym e ∙ f) refl)
 above : (k : ℕ) (l : List (Bool × ℕ)) → ascendsFrom k l ≡ true → (m : ℕ) → Applies m l → k < rank m
 above k [] a m h = absurd h
 above k (r ∷ l) a m h =
-    let p : k < rank (r .1) = ltb-true k (rank (r .1)) (both-left (ltb k (rank (r .1))) (ascendsFrom (rank (r .1)) l) a) in
+    let p : k < rank (r .1) = ltb-true k (rank (r .1)) (and-left (ltb k (rank (r .1))) (ascendsFrom (rank (r .1)) l) a) in
     let q : (j : ℕ) → Applies j l → rank (r .1) < rank j =
-    λ j i. above (rank (r .1)) l (both-right (ltb k (rank (r .1))) (ascendsFrom (rank (r .1)) l) a) j i in
+    λ j i. above (rank (r .1)) l (and-right (ltb k (rank (r .1))) (ascendsFrom (rank (r .1)) l) a) j i in
     ⊎-elim (λ i. subst (λ (n : ℕ). k < rank n) (i .1) p) (λ i. omega (arith, p, q m i)) h
 
 first-from : (k : ℕ) (l : List (Bool × ℕ)) → ascendsFrom k l ≡ true → First l (firstRefused l)
 first-from k [] a = record { applies = λ d. absurd (d refl); before = λ m h. absurd h; none = λ e m h. h; no-other = λ f. refl }
-first-from k (r ∷ l) a = go (r .0) refl (first-from (rank (r .1)) l (both-right (ltb k (rank (r .1))) (ascendsFrom (rank (r .1)) l) a))
+first-from k (r ∷ l) a = go (r .0) refl (first-from (rank (r .1)) l (and-right (ltb k (rank (r .1))) (ascendsFrom (rank (r .1)) l) a))
   where
     placed : k < rank (r .1)
-    placed = ltb-true k (rank (r .1)) (both-left (ltb k (rank (r .1))) (ascendsFrom (rank (r .1)) l) a)
+    placed = ltb-true k (rank (r .1)) (and-left (ltb k (rank (r .1))) (ascendsFrom (rank (r .1)) l) a)
 
     later : (m : ℕ) → Applies m l → rank (r .1) < rank m
-    later m h = above (rank (r .1)) l (both-right (ltb k (rank (r .1))) (ascendsFrom (rank (r .1)) l) a) m h
+    later m h = above (rank (r .1)) l (and-right (ltb k (rank (r .1))) (ascendsFrom (rank (r .1)) l) a) m h
 
     -- 0 has no place
     some : r .1 ≡ 0 → ⊥

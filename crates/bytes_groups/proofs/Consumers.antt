@@ -1,7 +1,7 @@
 -- The optional consumer has one encoding, by the laws of its contract (records).
 -- Assumes nothing.
 use mathlib.Core.Path.{_≡_, refl, ap, subst, _∙_}
-use mathlib.Core.Bool.{Bool, true, false, cond, _&&_}
+use mathlib.Core.Bool.{Bool, true, false, cond}
 use mathlib.Core.List.{List}
 use Prim.Native.Nat.{ℕ, zero, suc, _+_, _/_, _<_}
 use native.Mathlib.Omega.{arith}
@@ -15,6 +15,7 @@ use Rattle.power_policy_interface.specs.declared.capability.OptionProviderPower
 use Rattle.power_policy_interface.specs.declared.capability.ProviderPowerCapability.{ProviderPowerCapability}
 use Rattle.power_policy_interface.specs.declared.capability.PowerCapability.{PowerCapability}
 use Rattle.power_policy_interface.proofs.Bits.{number-lt}
+use Rattle.power_policy_interface.proofs.Conjunction.{and-left, and-right}
 use Rattle.interface_records.specs.Group.{groupBytes, emptyGroup, capabilityGroup, consumerGroup, providerGroup, consumerFrom, providerFrom, allZero}
 use Rattle.interface_records.specs.Row.{AllBytes}
 use Rattle.interface_records.specs.declared.group.Group.{Group}
@@ -107,14 +108,6 @@ provider-within g c h e =
     }
 
 -- six zeros
-
-and-left : (a b : Bool) → a && b ≡ true → a ≡ true
-and-left true b e = refl
-and-left false b e = absurd (let z : _≡_ {A = ℕ} 0 1 = cc in omega arith)
-
-and-right : (a b : Bool) → a && b ≡ true → b ≡ true
-and-right true b e = e
-and-right false b e = absurd (let z : _≡_ {A = ℕ} 0 1 = cc in omega arith)
 
 pub no-group : (g : Group) → noGroup g ≡ true → g ≡ emptyGroup 0
 no-group g e =

@@ -9,7 +9,7 @@ use borrow.Author.Tests.{le-leb, leb-true}
 use Rattle.power_policy_interface.specs.Capability.{capabilityFits}
 use Rattle.power_policy_interface.specs.declared.capability.PowerCapability.{PowerCapability}
 use Rattle.interface_display.specs.declared.OptionAvailableConsumer.{OptionAvailableConsumer}
-use Rattle.wire.proofs.ReadWrite.{and-left, and-right}
+use Rattle.power_policy_interface.proofs.Conjunction.{and-left, and-right}
 use Rattle.bytes_groups.proofs.Quads.{Within}
 use Rattle.bytes_groups.proofs.Consumers.{ConsumerWithin}
 use Rattle.bytes_service_image.specs.Typed.{ConsumerTyped}

@@ -9,7 +9,7 @@ use borrow.Author.Tests.{leb-true, ltb-true}
 use Rattle.machine_state.specs.declared.phase.Leaver.{Leaver}
 use Rattle.machine_state.specs.declared.phase.Phase.{Phase}
 use Rattle.machine_state.specs.declared.phase.Stage.{Stage}
-use Rattle.wire.proofs.ReadWrite.{and-left, and-right}
+use Rattle.power_policy_interface.proofs.Conjunction.{and-left, and-right}
 use Rattle.bytes_service_image.specs.WellFormed.{leaverFits, stageFits, phaseFits, leaverMost, stageMost, ordersLeast, ordersMost, ordersFit}
 
 leaver-most : (c : ℕ) (l : Leaver) → c ≤ 8 → leaverFits c l ≡ true → leaverMost l ≤ 35

@@ -31,7 +31,7 @@ use Rattle.interface_display.specs.declared.OptionAvailableConsumer.{OptionAvai
 use Rattle.machine_state.specs.declared.phase.Leaver.{Leaver}
 use Rattle.machine_state.specs.declared.phase.Phase.{Phase}
 use Rattle.machine_state.specs.declared.phase.Stage.{Stage}
-use Rattle.wire.proofs.ReadWrite.{and-left, and-right}
+use Rattle.power_policy_interface.proofs.Conjunction.{and-left, and-right}
 use Rattle.bytes_groups.specs.Tagged.{noGroup}
 use Rattle.bytes_groups.proofs.Places.{Below, one}
 use Rattle.bytes_groups.proofs.Consumers.{GroupBytes, group-bytes, empty-bytes, consumer-bytes, provider-bytes, consumer-within, provider-within, no-group}

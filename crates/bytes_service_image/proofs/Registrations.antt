@@ -12,7 +12,7 @@ use Rattle.power_policy_service.specs.Config.{MinimumFits, ConfigFits}
 use Rattle.power_policy_service.specs.declared.config.OptionMilliwatts.{OptionMilliwatts}
 use Rattle.power_policy_service.specs.declared.config.ReadMinimum.{ReadMinimum}
 use Rattle.abstract_policy.specs.declared.state.Registration.{Registration}
-use Rattle.wire.proofs.ReadWrite.{and-left, and-right}
+use Rattle.power_policy_interface.proofs.Conjunction.{and-left, and-right}
 use Rattle.bytes_groups.specs.Quad.{numberQuad, numberFrom, powerFrom}
 use Rattle.bytes_groups.proofs.Places.{Below, none, one, both}
 use Rattle.bytes_groups.proofs.Quads.{QuadBytes, quad-at, quad-bytes, number-back, number-written, number-within, number-bytes, power-back, power-written, power-within, power-bytes}

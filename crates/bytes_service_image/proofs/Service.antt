@@ -13,7 +13,7 @@ use Rattle.interface_records.specs.Row.{AllBytes}
 use Rattle.abstract_policy.specs.State.{displayOf}
 use Rattle.machine_state.specs.declared.memory.Notices.{Notices}
 use Rattle.machine_service.specs.declared.Service.{Service}
-use Rattle.wire.proofs.ReadWrite.{and-left, and-right}
+use Rattle.power_policy_interface.proofs.Conjunction.{and-left, and-right}
 use Rattle.bytes_groups.specs.Quad.{quadAt, quadBytes, numberQuad, numberFrom}
 use Rattle.bytes_groups.specs.Shown.{shownAt, shownBytes, displayShown}
 use Rattle.bytes_groups.specs.Tagged.{taggedAt, taggedBytes, consumerTagged, optionalFrom}

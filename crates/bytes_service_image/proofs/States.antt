@@ -11,7 +11,7 @@ use Rattle.interface_display.specs.declared.Display.{Display}
 use Rattle.power_policy_service.specs.declared.provider.PowerState.{PowerState}
 use Rattle.abstract_policy.specs.State.{displayOf}
 use Rattle.abstract_policy.specs.declared.state.InternalState.{InternalState}
-use Rattle.wire.proofs.ReadWrite.{and-left, and-right}
+use Rattle.power_policy_interface.proofs.Conjunction.{and-left, and-right}
 use Rattle.bytes_groups.specs.Shown.{displayShown, displayFrom}
 use Rattle.bytes_groups.specs.declared.shown.ReadDisplay.{ReadDisplay}
 use Rattle.bytes_groups.specs.declared.shown.Shown.{Shown}

@@ -11,6 +11,7 @@ use lib.ListN.{length, replicate, take}
 use lib.Seq.{ext-getD}
 use borrow.Author.Tests.{eqb-true, leb-true, eq-eqb, le-leb, ltb-true, ltb-false}
 use Rattle.power_policy_interface.specs.Limits.{largest}
+use Rattle.power_policy_interface.proofs.Conjunction.{and-both}
 use Rattle.interface_display.specs.Notices.{places, empty, padded}
 use Rattle.interface_display.specs.declared.notices.Notices.{Notices}
 use Rattle.interface_display.specs.declared.packet.EventPacket.{EventPacket}
@@ -21,12 +22,6 @@ use Rattle.desk_follower.specs.declared.Follower.{Follower}
 use Rattle.desk_follower.specs.declared.Shown.{Shown}
 use Rattle.desk_follower.specs.declared.held.Held.{Held}
 use Rattle.desk_follower.proofs.Kept.{none-at}
-
-both : (a b : Bool) → (a && b) ≡ true → (a ≡ true) × (b ≡ true)
-both true true e = (refl, refl)
-both true false e = absurd (let z : _≡_ {A = ℕ} 0 1 = cc in omega arith)
-both false true e = absurd (let z : _≡_ {A = ℕ} 0 1 = cc in omega arith)
-both false false e = absurd (let z : _≡_ {A = ℕ} 0 1 = cc in omega arith)
 
 either : (a b : Bool) → (a || b) ≡ true → (a ≡ true) ⊎ (b ≡ true)
 either true b e = inl refl
@@ -39,15 +34,15 @@ or-right false b e = e
 
 zero-notices : (n : Notices) → noNotices n ≡ true → n ≡ empty
 zero-notices n e =
-    let a = both (eqb (n .count) 0) (padded n) e in
+    let a = and-both (eqb (n .count) 0) (padded n) e in
     let z : n .count ≡ 0 = eqb-true (n .count) 0 (a .0) in
     one-value n empty (a .1) refl (ap (λ (k : ℕ). take k (places n)) z)
 
 none-true : (p : EventPacket) → isNone p ≡ true → p ≡ none
 none-true p e =
-    let a = both (eqb (p .number) 0) (eqb (p .answer) 0 && (eqb (p .orders) 0 && noNotices (p .notices))) e in
-    let b = both (eqb (p .answer) 0) (eqb (p .orders) 0 && noNotices (p .notices)) (a .1) in
-    let c = both (eqb (p .orders) 0) (noNotices (p .notices)) (b .1) in
+    let a = and-both (eqb (p .number) 0) (eqb (p .answer) 0 && (eqb (p .orders) 0 && noNotices (p .notices))) e in
+    let b = and-both (eqb (p .answer) 0) (eqb (p .orders) 0 && noNotices (p .notices)) (a .1) in
+    let c = and-both (eqb (p .orders) 0) (noNotices (p .notices)) (b .1) in
     let x : p .number ≡ 0 = eqb-true (p .number) 0 (a .0) in
     let y : p .answer ≡ 0 = eqb-true (p .answer) 0 (b .0) in
     let z : p .orders ≡ 0 = eqb-true (p .orders) 0 (c .0) in
@@ -61,10 +56,10 @@ place-true : (lo hi i : ℕ) (p : EventPacket) → inPlace lo hi i p ≡ true �
 place-true lo hi i p e =
     ⊎-elim (λ x. inl (none-true p x))
     (λ x.
-    let a = both (leb lo (p .number)) _ x in
-    let b = both (leb (p .number) hi) _ (a .1) in
-    let c = both (leb (p .number) largest) _ (b .1) in
-    let d = both (eqb (p .number % 8) i) (padded (p .notices)) (c .1) in
+    let a = and-both (leb lo (p .number)) _ x in
+    let b = and-both (leb (p .number) hi) _ (a .1) in
+    let c = and-both (leb (p .number) largest) _ (b .1) in
+    let d = and-both (eqb (p .number % 8) i) (padded (p .notices)) (c .1) in
     inr (leb-true _ _ (a .0), leb-true _ _ (b .0), leb-true _ _ (c .0), eqb-true _ _ (d .0), d .1))
     (either (isNone p) _ e)
 
@@ -86,7 +81,7 @@ all-true : (t : ℕ → EventPacket → Bool) (k : ℕ) (h : Held) → allPlaces
 unfolding allPlaces
 all-true t zero h e i l = absurd (omega arith)
 all-true t (suc k) h e i l =
-    let a = both (allPlaces t k h) (t k (packetAt h k)) e in
+    let a = and-both (allPlaces t k h) (t k (packetAt h k)) e in
     all-tested t k h i (ltb i k) refl l (all-true t k h (a .0) i) (a .1)
 
 true-all : (t : ℕ → EventPacket → Bool) (k : ℕ) (h : Held) → ((i : ℕ) → i < k → t i (packetAt h i) ≡ true) → allPlaces t k h ≡ true
@@ -102,14 +97,14 @@ no-packets h e f =
 
 formed-at : (x : Shown) (h : Held) → wellFormedAt x h ≡ true → WellFormedAt x h
 formed-at (Shown.Lost floor) h e =
-    let a = both (leb floor largest) (eqb (length (h .packets)) 8 && allPlaces (λ i p. isNone p) 8 h) e in
-    let b = both (eqb (length (h .packets)) 8) (allPlaces (λ i p. isNone p) 8 h) (a .1) in (
+    let a = and-both (leb floor largest) (eqb (length (h .packets)) 8 && allPlaces (λ i p. isNone p) 8 h) e in
+    let b = and-both (eqb (length (h .packets)) 8) (allPlaces (λ i p. isNone p) 8 h) (a .1) in (
       leb-true _ _ (a .0),
       no-packets h (eqb-true _ _ (b .0)) (λ i l. none-true (packetAt h i) (all-true (λ j p. isNone p) 8 h (b .1) i l)),
     )
 formed-at (Shown.Picture s) h e =
-    let a = both (leb (s .number) largest) (eqb (length (h .packets)) 8 && allPlaces (inPlace (s .number + 2) (s .number + 8)) 8 h) e in
-    let b = both (eqb (length (h .packets)) 8) (allPlaces (inPlace (s .number + 2) (s .number + 8)) 8 h) (a .1) in (
+    let a = and-both (leb (s .number) largest) (eqb (length (h .packets)) 8 && allPlaces (inPlace (s .number + 2) (s .number + 8)) 8 h) e in
+    let b = and-both (eqb (length (h .packets)) 8) (allPlaces (inPlace (s .number + 2) (s .number + 8)) 8 h) (a .1) in (
       leb-true _ _ (a .0),
       (
         eqb-true _ _ (b .0),

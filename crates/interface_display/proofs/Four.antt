@@ -1,7 +1,7 @@
 -- Four places: of a count of four or more all are meant; a notice pushed comes last; and well-formed notices are those of their list.
 -- Assumes nothing.
 use mathlib.Core.Path.{_≡_, refl, ap, sym, _∙_}
-use mathlib.Core.Bool.{Bool, true, false, _&&_}
+use mathlib.Core.Bool.{true}
 use Prim.Native.Nat.{ℕ, zero, suc, _≤_, _<_}
 use native.Mathlib.Omega.{arith}
 use mathlib.Core.List.{List, [], _∷_, _++_}
@@ -9,6 +9,7 @@ use lib.Dec.{eqb, leb}
 use lib.ListN.{take, length, length-take}
 use borrow.Author.Tests.{eqb-true, leb-true}
 use Rattle.power_policy_interface.proofs.OneByte.{reason-read-write}
+use Rattle.power_policy_interface.proofs.Conjunction.{and-both}
 use Rattle.power_policy_interface.specs.Capability.{disconnectByte, disconnectFrom}
 use Rattle.power_policy_interface.specs.declared.capability.DisconnectFlags.{DisconnectFlags}
 use Rattle.power_policy_interface.specs.declared.capability.OptionDisconnectFlags.{OptionDisconnectFlags}
@@ -52,12 +53,6 @@ pushed-last n e h = last-at (n .count) n e h
 
 -- the well-formed notices of a list
 
-both : (a b : Bool) → (a && b) ≡ true → (a ≡ true) × (b ≡ true)
-both true true e = (refl, refl)
-both true false e = absurd (let z : _≡_ {A = ℕ} 0 1 = cc in omega arith)
-both false true e = absurd (let z : _≡_ {A = ℕ} 0 1 = cc in omega arith)
-both false false e = absurd (let z : _≡_ {A = ℕ} 0 1 = cc in omega arith)
-
 no-reason : (f : DisconnectFlags) → disconnectByte f ≡ 0 → f ≡ record { reason = OptionDisconnectReason.None }
 no-reason f h =
     let e : disconnectFrom 0 ≡ OptionDisconnectFlags.Some f = ap disconnectFrom (sym h) ∙ reason-read-write f in
@@ -65,7 +60,7 @@ no-reason f h =
 
 is-filler : (e : Event) → isFiller e ≡ true → e ≡ filler
 is-filler (Event.ConsumerDisconnected p f) h =
-    let a = both (eqb p 0) (eqb (disconnectByte f) 0) h in
+    let a = and-both (eqb p 0) (eqb (disconnectByte f) 0) h in
     let x : p ≡ 0 = eqb-true p 0 (a .0) in
     let y = no-reason f (eqb-true (disconnectByte f) 0 (a .1)) in
     λ i. Event.ConsumerDisconnected (x i) (y i)
@@ -75,10 +70,10 @@ is-filler (Event.ProviderConnected p c) h = absurd (let z : _≡_ {A = ℕ} 0 1 
 is-filler (Event.Unconstrained u) h = absurd (let z : _≡_ {A = ℕ} 0 1 = cc in omega arith)
 
 head-filler : (e : Event) (l : List Event) → allFiller (e ∷ l) ≡ true → filler ≡ e
-head-filler e l h = sym (is-filler e (both (isFiller e) (allFiller l) h .0))
+head-filler e l h = sym (is-filler e (and-both (isFiller e) (allFiller l) h .0))
 
 tail-filler : (e : Event) (l : List Event) → allFiller (e ∷ l) ≡ true → allFiller l ≡ true
-tail-filler e l h = both (isFiller e) (allFiller l) h .1
+tail-filler e l h = and-both (isFiller e) (allFiller l) h .1
 
 abbrev pub rebuilt : List Event → Notices
 rebuilt [] = empty
@@ -90,7 +85,7 @@ rebuilt (a ∷ b ∷ c ∷ d ∷ l) = record { count = 4; first = a; second = b;
 rebuilt-at : (k : ℕ) (a b c d : Event) → padded (record { count = k; first = a; second = b; third = c; fourth = d }) ≡ true
     → rebuilt (take k (a ∷ b ∷ c ∷ d ∷ [])) ≡ record { count = k; first = a; second = b; third = c; fourth = d }
 rebuilt-at zero a b c d h =
-    let p = both (leb 0 4) (allFiller (a ∷ b ∷ c ∷ d ∷ [])) h .1 in
+    let p = and-both (leb 0 4) (allFiller (a ∷ b ∷ c ∷ d ∷ [])) h .1 in
     let q = tail-filler a (b ∷ c ∷ d ∷ []) p in
     let r = tail-filler b (c ∷ d ∷ []) q in
     let s = tail-filler c (d ∷ []) r in
@@ -100,7 +95,7 @@ rebuilt-at zero a b c d h =
     let w = head-filler d [] s in
     λ i. record { count = 0; first = x i; second = y i; third = z i; fourth = w i }
 rebuilt-at (suc zero) a b c d h =
-    let q = both (leb 1 4) (allFiller (b ∷ c ∷ d ∷ [])) h .1 in
+    let q = and-both (leb 1 4) (allFiller (b ∷ c ∷ d ∷ [])) h .1 in
     let r = tail-filler b (c ∷ d ∷ []) q in
     let s = tail-filler c (d ∷ []) r in
     let y = head-filler b (c ∷ d ∷ []) q in
@@ -108,18 +103,18 @@ rebuilt-at (suc zero) a b c d h =
     let w = head-filler d [] s in
     λ i. record { count = 1; first = a; second = y i; third = z i; fourth = w i }
 rebuilt-at (suc (suc zero)) a b c d h =
-    let r = both (leb 2 4) (allFiller (c ∷ d ∷ [])) h .1 in
+    let r = and-both (leb 2 4) (allFiller (c ∷ d ∷ [])) h .1 in
     let s = tail-filler c (d ∷ []) r in
     let z = head-filler c (d ∷ []) r in
     let w = head-filler d [] s in
     λ i. record { count = 2; first = a; second = b; third = z i; fourth = w i }
 rebuilt-at (suc (suc (suc zero))) a b c d h =
-    let s = both (leb 3 4) (allFiller (d ∷ [])) h .1 in
+    let s = and-both (leb 3 4) (allFiller (d ∷ [])) h .1 in
     let w = head-filler d [] s in
     λ i. record { count = 3; first = a; second = b; third = c; fourth = w i }
 rebuilt-at (suc (suc (suc (suc zero)))) a b c d h = refl
 rebuilt-at (suc (suc (suc (suc (suc k))))) a b c d h =
-    absurd (omega (arith, leb-true (suc (suc (suc (suc (suc k))))) 4 (both (leb (suc (suc (suc (suc (suc k))))) 4) _ h .0)))
+    absurd (omega (arith, leb-true (suc (suc (suc (suc (suc k))))) 4 (and-both (leb (suc (suc (suc (suc (suc k))))) 4) _ h .0)))
 
 pub padded-rebuilt : (n : Notices) → padded n ≡ true → rebuilt (listed n) ≡ n
 padded-rebuilt n h = rebuilt-at (n .count) (n .first) (n .second) (n .third) (n .fourth) h

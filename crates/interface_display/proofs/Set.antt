@@ -1,13 +1,14 @@
 -- The definitions are the set of heapless's documentation: a port's membership is its bit, and inserting or removing it changes that bit alone.
 -- Assumes nothing.
 use mathlib.Core.Path.{_≡_, refl, ap, sym, _∙_}
-use mathlib.Core.Bool.{Bool, true, false, cond, not, _&&_, _||_, false≢true, or-true, or-false, and-true, and-false}
+use mathlib.Core.Bool.{Bool, true, false, cond, not, _&&_, _||_, or-true, or-false, and-true, and-false}
 use Prim.Native.Nat.{ℕ, _+_, _%_, _^_, _<_, _≤_}
 use native.Mathlib.Nat.{zero-div}
 use native.Mathlib.Omega.{arith}
 use lib.Bits.{bitOr, bitXor}
 use lib.Dec.{eqb, ltb}
 use borrow.Author.Tests.{eqb-true, eqb-false, ltb-true, lt-ltb}
+use Rattle.power_policy_interface.proofs.Conjunction.{and-both}
 use Rattle.interface_display.specs.Providers.{maxConnectedProviders, bitAt, contains, len, room}
 use Rattle.interface_display.specs.Set.{SetLaws, more}
 use Rattle.interface_display.specs.declared.providers.Insert.{Insert}
@@ -16,10 +17,6 @@ use Rattle.interface_display.specs.declared.providers.Providers.{Provide
 use Rattle.interface_display.specs.declared.providers.Removed.{Removed}
 use Rattle.interface_display.proofs.Count.{bit-le}
 use Rattle.interface_display.proofs.OneBit.{set-bit, set-others, cleared-bit, cleared-others, ones-but}
-
-both : (a b : Bool) → (a && b) ≡ true → (a ≡ true) × (b ≡ true)
-both true b e = (refl, e)
-both false b e = absurd (false≢true e)
 
 -- a port with its bit set, and without
 
@@ -31,7 +28,7 @@ without s p = record { mask = bitXor (s .mask) (2 ^ p) }
 
 pub member : (s : Providers) (p : ℕ) → contains s p ≡ true → (p < 16) × (bitAt (s .mask) p ≡ 1)
 member s p e =
-    let h = both (ltb p 16) (eqb (bitAt (s .mask) p) 1) e in
+    let h = and-both (ltb p 16) (eqb (bitAt (s .mask) p) 1) e in
     (ltb-true p 16 (h .0), eqb-true (bitAt (s .mask) p) 1 (h .1))
 
 not-member : (s : Providers) (p : ℕ) → p < 16 → contains s p ≡ false → bitAt (s .mask) p ≡ 0
@@ -41,7 +38,7 @@ not-member s p l e =
 
 pub has-room : (s : Providers) (p : ℕ) → room s p ≡ true → (p < 16) × (len s < maxConnectedProviders)
 has-room s p e =
-    let h = both (ltb p 16) (ltb (len s) maxConnectedProviders) e in
+    let h = and-both (ltb p 16) (ltb (len s) maxConnectedProviders) e in
     (ltb-true p 16 (h .0), ltb-true (len s) maxConnectedProviders (h .1))
 
 with-there : (s : Providers) (p q : ℕ) → p < 16 → contains (with s p) q ≡ (contains s q || eqb q p)

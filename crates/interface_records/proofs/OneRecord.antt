@@ -3,8 +3,7 @@
 use mathlib.Core.Path.{_≡_, refl, ap, sym, _∙_}
 use mathlib.Core.Bool.{Bool, true, false, cond}
 use mathlib.Core.List.{List, [], _∷_, _++_}
-use mathlib.Core.Option.{Option, none, some}
-use Prim.Native.Nat.{ℕ, zero, suc, _+_, _<_}
+use Prim.Native.Nat.{ℕ, zero, suc, _+_}
 use native.Mathlib.Nat.{suc-inj}
 use native.Mathlib.Omega.{arith}
 use lib.Dec.{eqb}
@@ -21,7 +20,7 @@ use Rattle.power_policy_interface.specs.declared.psu.State as psu
 use Rattle.interface_records.specs.Group.{groupAt, groupBytes, emptyGroup, consumerGroup, providerGroup, optionConsumerGroup, optionProviderGroup, allZero, consumerFrom, providerFrom, optionConsumerFrom, optionProviderFrom}
 use Rattle.interface_records.specs.Row.{AllBytes}
 use Rattle.interface_records.specs.Psu.{psuStateGroup, psuBytes, providing, consuming, stateCases, psuStateFrom, psuOf, psuFrom}
-use Rattle.interface_records.specs.Charger.{chargerBytes, internalFrom, internals, chargerOf, chargerFrom}
+use Rattle.interface_records.specs.Charger.{chargerBytes, internalFrom, chargerOf, chargerFrom}
 use Rattle.interface_records.specs.declared.group.Group.{Group}
 use Rattle.interface_records.specs.declared.group.ReadConsumer.{ReadConsumer}
 use Rattle.interface_records.specs.declared.group.ReadProvider.{ReadProvider}
@@ -48,6 +47,14 @@ gets-all [] zero e = refl
 gets-all [] (suc n) e = absurd (omega arith)
 gets-all (x ∷ s) zero e = absurd (omega arith)
 gets-all (x ∷ s) (suc n) e = ap (λ (l : List ℕ). x ∷ l) (gets-cons x s 0 n ∙ gets-all s n (suc-inj e))
+
+-- what is read of so many bytes alone was read of so many
+whole : {A : Type 0} (bs : List ℕ) (w : ℕ) (x y r : A) → (y ≡ r → ⊥) → cond (eqb (length bs) w) x y ≡ r → (length bs ≡ w) × (x ≡ r)
+whole bs w x y r h e = tested (eqb (length bs) w) refl e
+  where
+    tested : (t : Bool) → eqb (length bs) w ≡ t → cond t x y ≡ r → (length bs ≡ w) × (x ≡ r)
+    tested true p q = (eqb-true (length bs) w p, q)
+    tested false p q = absurd (h q)
 
 -- the PSU record
 
@@ -110,24 +117,16 @@ groups-written a b c s (ReadPsuState.Read u) (ReadConsumer.Read v) (ReadProvider
     let ec = option-provider-written c w hc r in
     (λ i. groupBytes (ea i) ++ (groupBytes (eb i) ++ groupBytes (ec i))) ∙ ap psuBytes k
 
-psu-tested : (bs : List ℕ) (s : psu.State) (t : Bool) → eqb (length bs) 18 ≡ t → AllBytes bs
-    → cond t (psuOf (psuStateFrom (groupAt bs 0)) (optionConsumerFrom (groupAt bs 6)) (optionProviderFrom (groupAt bs 12))) ReadPsu.Refused
-    ≡ ReadPsu.Read s
-    → bs ≡ psuBytes s
-psu-tested bs s true p h e =
-    sym (gets-all bs 18 (eqb-true (length bs) 18 p))
-    ∙ groups-written (groupAt bs 0) (groupAt bs 6) (groupAt bs 12) s (psuStateFrom (groupAt bs 0)) (optionConsumerFrom (groupAt bs 6)) (optionProviderFrom (groupAt bs 12))
-    (group-bytes bs 0 h)
-    (group-bytes bs 6 h)
-    (group-bytes bs 12 h)
-    refl
-    refl
-    refl
-    e
-psu-tested bs s false p h e = absurd (let z : _≡_ {A = ℕ} 0 1 = cc in omega arith)
-
 pub psu-write-read : (bs : List ℕ) (s : psu.State) → AllBytes bs → psuFrom bs ≡ ReadPsu.Read s → bs ≡ psuBytes s
-psu-write-read bs s h e = psu-tested bs s (eqb (length bs) 18) refl h e
+psu-write-read bs s h e =
+    let x = psuStateFrom (groupAt bs 0) in
+    let y = optionConsumerFrom (groupAt bs 6) in
+    let z = optionProviderFrom (groupAt bs 12) in
+    let t = whole bs 18 (psuOf x y z) ReadPsu.Refused (ReadPsu.Read s) (λ q. let k : _≡_ {A = ℕ} 0 1 = cc in omega arith) e in
+    sym (gets-all bs 18 (t .0))
+    ∙ groups-written (groupAt bs 0) (groupAt bs 6) (groupAt bs 12) s x y z (group-bytes bs 0 h) (group-bytes bs 6 h) (group-bytes bs 12 h) refl refl
+    refl
+    (t .1)
 
 -- the charger record
 
@@ -165,15 +164,9 @@ parts-written n g s (ReadInternalState.Read u) (ReadConsumer.Read v) h p q e =
     let eg = option-consumer-written g v h q in
     (λ i. en i ∷ groupBytes (eg i)) ∙ ap chargerBytes k
 
-charger-tested : (bs : List ℕ) (s : charger.State) (t : Bool) → eqb (length bs) 7 ≡ t → AllBytes bs
-    → cond t (chargerOf (internalFrom (getD bs 0 0)) (optionConsumerFrom (groupAt bs 1))) ReadCharger.Refused ≡ ReadCharger.Read s
-    → bs ≡ chargerBytes s
-charger-tested bs s true p h e =
-    sym (gets-all bs 7 (eqb-true (length bs) 7 p))
-    ∙ parts-written (getD bs 0 0) (groupAt bs 1) s (internalFrom (getD bs 0 0)) (optionConsumerFrom (groupAt bs 1)) (group-bytes bs 1 h) refl
-    refl
-    e
-charger-tested bs s false p h e = absurd (let z : _≡_ {A = ℕ} 0 1 = cc in omega arith)
-
 pub charger-write-read : (bs : List ℕ) (s : charger.State) → AllBytes bs → chargerFrom bs ≡ ReadCharger.Read s → bs ≡ chargerBytes s
-charger-write-read bs s h e = charger-tested bs s (eqb (length bs) 7) refl h e
+charger-write-read bs s h e =
+    let x = internalFrom (getD bs 0 0) in
+    let y = optionConsumerFrom (groupAt bs 1) in
+    let t = whole bs 7 (chargerOf x y) ReadCharger.Refused (ReadCharger.Read s) (λ q. let k : _≡_ {A = ℕ} 0 1 = cc in omega arith) e in
+    sym (gets-all bs 7 (t .0)) ∙ parts-written (getD bs 0 0) (groupAt bs 1) s x y (group-bytes bs 1 h) refl refl (t .1)

@@ -1,14 +1,14 @@
 -- A row has one encoding, since each of its records has: by induction on the number of records.
 -- Assumes nothing.
-use mathlib.Core.Path.{_≡_, refl, ap, sym, subst, _∙_}
+use mathlib.Core.Path.{_≡_, refl, ap, sym, _∙_}
 use mathlib.Core.Bool.{Bool, true, false}
 use mathlib.Core.List.{List, [], _∷_, _++_}
 use mathlib.Core.Option.{Option, none, some}
-use Prim.Native.Nat.{ℕ, zero, suc, _+_, _*_, _-_, _<_, _≤_, min}
-use native.Mathlib.Nat.{suc-mul, zero-mul, min-eq-left, min-eq-right}
+use Prim.Native.Nat.{ℕ, zero, suc, _+_, _*_, _-_, _<_, _≤_}
+use native.Mathlib.Nat.{suc-mul, zero-mul}
 use native.Mathlib.Omega.{arith}
 use lib.Dec.{ltb, lit<}
-use lib.ListN.{length, getD, take, drop, length-append, length-drop, length-take, take-append-drop, List·getD-eq-default}
+use lib.ListN.{length, getD, take, drop, length-drop, length-take, take-append-drop, List·getD-eq-default}
 use lib.Seq.{take-at, drop-at, getD-drop, getD-take}
 use borrow.Author.Tests.{ltb-true, ltb-false}
 use Rattle.power_policy_interface.specs.declared.charger.State as charger
@@ -60,9 +60,9 @@ module _ {A : Type 0} (read : List ℕ → Option A) (write : A → List ℕ) (w
       let p : s ≡ write (c .0) ++ written write (c .1) = sym (take-append-drop w s) ∙ (λ i. a i ++ r .0 i) in
       (p ∙ ap (written write) (sym (c .4)), ap length (c .4) ∙ ap suc (r .1))
 
-psu-some : (s : List ℕ) (p : psu.State) (r : ReadPsu) → psuFrom s ≡ r → AllBytes s → readPsu r ≡ some p → s ≡ psuBytes p
-psu-some s p ReadPsu.Refused e h q = absurd (let z : _≡_ {A = ℕ} 0 1 = cc in omega arith)
-psu-some s p (ReadPsu.Read x) e h q = psu-write-read s x h e ∙ ap psuBytes (let k : x ≡ p = cc in k)
+psu-told : (r : ReadPsu) (p : psu.State) → readPsu r ≡ some p → r ≡ ReadPsu.Read p
+psu-told ReadPsu.Refused p q = absurd (let z : _≡_ {A = ℕ} 0 1 = cc in omega arith)
+psu-told (ReadPsu.Read x) p q = ap ReadPsu.Read (let k : x ≡ p = cc in k)
 
 pub psus-read-write : (l : List psu.State) → records (λ (b : List ℕ). readPsu (psuFrom b)) 18 (length l) (written psuBytes l) ≡ some l
 psus-read-write l = back (λ (b : List ℕ). readPsu (psuFrom b)) psuBytes 18 (λ p. refl) (λ p. ap readPsu (psu-read-write p)) l
@@ -70,12 +70,11 @@ psus-read-write l = back (λ (b : List ℕ). readPsu (psuFrom b)) psuBytes 18 (�
 pub psus-write-read : (n : ℕ) (s : List ℕ) (l : List psu.State) → length s ≡ n * 18 → AllBytes s
     → records (λ (b : List ℕ). readPsu (psuFrom b)) 18 n s ≡ some l → (s ≡ written psuBytes l) × (length l ≡ n)
 psus-write-read n s l e h q =
-    forth (λ (b : List ℕ). readPsu (psuFrom b)) psuBytes 18 (λ b a hb r. psu-some b a (psuFrom b) refl hb r) n s l e h q
+    forth (λ (b : List ℕ). readPsu (psuFrom b)) psuBytes 18 (λ b p h r. psu-write-read b p h (psu-told (psuFrom b) p r)) n s l e h q
 
-charger-some : (s : List ℕ) (p : charger.State) (r : ReadCharger) → chargerFrom s ≡ r → AllBytes s → readCharger r ≡ some p
-    → s ≡ chargerBytes p
-charger-some s p ReadCharger.Refused e h q = absurd (let z : _≡_ {A = ℕ} 0 1 = cc in omega arith)
-charger-some s p (ReadCharger.Read x) e h q = charger-write-read s x h e ∙ ap chargerBytes (let k : x ≡ p = cc in k)
+charger-told : (r : ReadCharger) (p : charger.State) → readCharger r ≡ some p → r ≡ ReadCharger.Read p
+charger-told ReadCharger.Refused p q = absurd (let z : _≡_ {A = ℕ} 0 1 = cc in omega arith)
+charger-told (ReadCharger.Read x) p q = ap ReadCharger.Read (let k : x ≡ p = cc in k)
 
 pub chargers-read-write : (l : List charger.State)
     → records (λ (b : List ℕ). readCharger (chargerFrom b)) 7 (length l) (written chargerBytes l) ≡ some l
@@ -84,4 +83,4 @@ chargers-read-write l = back (λ (b : List ℕ). readCharger (chargerFrom b)) ch
 pub chargers-write-read : (n : ℕ) (s : List ℕ) (l : List charger.State) → length s ≡ n * 7 → AllBytes s
     → records (λ (b : List ℕ). readCharger (chargerFrom b)) 7 n s ≡ some l → (s ≡ written chargerBytes l) × (length l ≡ n)
 chargers-write-read n s l e h q =
-    forth (λ (b : List ℕ). readCharger (chargerFrom b)) chargerBytes 7 (λ b a hb r. charger-some b a (chargerFrom b) refl hb r) n s l e h q
+    forth (λ (b : List ℕ). readCharger (chargerFrom b)) chargerBytes 7 (λ b p h r. charger-write-read b p h (charger-told (chargerFrom b) p r)) n s l e h q

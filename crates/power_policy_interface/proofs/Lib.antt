@@ -1,4 +1,5 @@
 pub mod Bits
+pub mod Conjunction
 pub mod KindBits
 pub mod OneByte
 pub mod Order

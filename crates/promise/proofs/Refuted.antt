@@ -20,7 +20,7 @@ use Rattle.abstract_policy.specs.declared.state.Registration.{Registration}
 use Rattle.wire.specs.Bytes.{eventBytes, noticeBytes, contractBytes, capabilityBytes, pictureBytes, consumerBytes, portsBytes}
 use Rattle.wire.specs.Number.{leb128, readNumber}
 use Rattle.wire.specs.Packet as wire
-use Rattle.wire.specs.Packet.{packetOf, pictureAfter, unconstrained, capability, consumer, consumerConnected, noticeOf, notice, eventNotices, eventAfter}
+use Rattle.wire.specs.Packet.{packetOf, pictureAfter, unconstrained, capability, contract, consumer, consumerConnected, noticeOf, notice, eventNotices, eventAfter}
 use Rattle.wire.specs.Parser.{field, number as readField}
 use Rattle.wire.specs.Read.{readPacket}
 use Rattle.wire.specs.declared.packet.ReadPacket.{ReadPacket}
@@ -195,7 +195,7 @@ unfolding wire.packet packetOf wire.picture readField readNumber field pictureAf
 read-0 = refl
 
 read-1 : (e : EventPacket) × (readPacket y1 ≡ ReadPacket.Packet (Packet.Event e)) × (e .number ≡ 1)
-unfolding wire.packet packetOf wire.event readField readNumber field eventAfter eventNotices notice noticeOf consumerConnected consumer capability
+unfolding wire.packet packetOf wire.event readField readNumber field eventAfter eventNotices notice noticeOf consumerConnected consumer contract capability
 read-1 = (record { number = 1; answer = 0; orders = 2; notices = _ }, refl, refl)
 
 -- whatever the functions, if they keep the promise

@@ -32,7 +32,7 @@ use Rattle.machine_state.specs.declared.phase.Phase.{Phase}
 use Rattle.machine_state.specs.declared.phase.Stage.{Stage}
 use Rattle.machine_service.specs.Service.{answerIn}
 use Rattle.machine_service.specs.declared.Service.{Service}
-use Rattle.wire.proofs.ReadWrite.{and-left, and-right}
+use Rattle.power_policy_interface.proofs.Conjunction.{and-left, and-right}
 use Rattle.promise_run.specs.Demands as run
 use Rattle.promise_run.specs.Demands.{Equal}
 use Rattle.promise_run.specs.Run.{services, CallsFit}

@@ -26,7 +26,7 @@ use Rattle.power_policy_service.proofs.Choice.{only-chosen}
 use Rattle.abstract_policy.specs.Edges.{psu, offer, contract, nothing, offering, EventEdges}
 use Rattle.abstract_policy.proofs.Edges.{event-edges}
 use Rattle.wire.specs.Number.{leb128, readNumber}
-use Rattle.wire.specs.Packet.{capability, consumer, unconstrained, consumerConnected, noticeOf, notice, eventNotices, eventAfter, event as eventPacket, pictureAfter, picture, packetOf, packet}
+use Rattle.wire.specs.Packet.{capability, contract as contractRead, consumer, unconstrained, consumerConnected, noticeOf, notice, eventNotices, eventAfter, event as eventPacket, pictureAfter, picture, packetOf, packet}
 use Rattle.wire.specs.Parser.{field, number}
 use Rattle.wire.specs.Read.{readPacket}
 use Rattle.wire.specs.declared.number.ReadNumber.{ReadNumber}
@@ -140,11 +140,11 @@ p12 : taking follower.fresh (picture0 ∷ event2 ∷ event1 ∷ event1 ∷ event
     ∷ line (OptionNumber.Some 2) shown.State.Level (OptionNumber.Some 1) (OptionNumber.Some 60000)
     ∷ line OptionNumber.None shown.State.Lost OptionNumber.None OptionNumber.None
     ∷ []
-unfolding lineOf readNumber field number capability consumer unconstrained consumerConnected noticeOf notice eventNotices eventAfter eventPacket pictureAfter picture packetOf packet noneHeld greatest above follower.inTurn
+unfolding lineOf readNumber field number capability contractRead consumer unconstrained consumerConnected noticeOf notice eventNotices eventAfter eventPacket pictureAfter picture packetOf packet noneHeld greatest above follower.inTurn
 p12 = refl
 
 p12-written : follow exampleInput ≡ exampleOutput
-unfolding follow framed takenBy lineFor lineBytes refusedBytes decimal lineOf readNumber field number capability consumer unconstrained consumerConnected noticeOf notice eventNotices eventAfter eventPacket pictureAfter picture packetOf packet noneHeld greatest above follower.inTurn
+unfolding follow framed takenBy lineFor lineBytes refusedBytes decimal lineOf readNumber field number capability contractRead consumer unconstrained consumerConnected noticeOf notice eventNotices eventAfter eventPacket pictureAfter picture packetOf packet noneHeld greatest above follower.inTurn
 p12-written = refl
 
 pub edges : Edges

@@ -40,7 +40,7 @@ use Rattle.machine_follows.specs.Machine.{heldOf, rest, standsAt, standsFor, No
 use Rattle.machine_follows.specs.Served.{serviceAfter, numbered, Stands}
 use Rattle.machine_follows.proofs.Follows.{leaving-answered, switching-answered, connecting-answered, providing-answered}
 use Rattle.machine_follows.proofs.Serves.{openOrders, service, serviceAt, answers-follow}
-use Rattle.wire.proofs.ReadWrite.{and-left, and-right}
+use Rattle.power_policy_interface.proofs.Conjunction.{and-left, and-right}
 use Rattle.bytes_service_image.specs.WellFormed.{leaverFits, stageFits, stageLeast, phaseFits, noneConnected, noProvider, notDisconnected, noConsumer, noFigures, notConnected, notUpdated, nothingTold, tells}
 use Rattle.promise_invariant.proofs.Good.{Good, At, Limits, Parts, parts}
 use Rattle.promise_invariant.proofs.Steps.{TurnGood, orders-most, answered-good}

@@ -1,7 +1,7 @@
 -- The services that calls lead to, and what the test says of them part by part: each `&&` is split into fields, and the orders are compared as
 -- numbers.
 use mathlib.Core.Path.{_≡_}
-use mathlib.Core.Bool.{Bool, true, _&&_}
+use mathlib.Core.Bool.{true, _&&_}
 use Prim.Native.Nat.{ℕ, _^_, _≤_}
 use lib.Dec.{leb, ltb}
 use borrow.Author.Tests.{leb-true, le-leb}
@@ -14,7 +14,7 @@ use Rattle.machine_state.specs.declared.memory.Memory.{Memory}
 use Rattle.machine_state.specs.declared.memory.Notices.{Notices}
 use Rattle.machine_state.specs.declared.phase.Phase.{Phase}
 use Rattle.machine_service.specs.declared.Service.{Service}
-use Rattle.wire.proofs.ReadWrite.{and-left, and-right}
+use Rattle.power_policy_interface.proofs.Conjunction.{and-both}
 use Rattle.bytes_service_image.specs.Typed.{ConsumerTyped, ProviderTyped, PhaseTyped, Typed}
 use Rattle.bytes_service_image.specs.WellFormed.{registrationFits, consumerFits, providersFit, stateFits, phaseFits, ordersLeast, ordersMost, ordersFit, providerFits, disconnectedFits, unconstrainedFits, noticesFit, tells, numberFits, eventFits, wellFormed}
 
@@ -66,23 +66,20 @@ pub record Parts (s : Service) : Type 0 where
 
 -- from the test to its parts
 
-split : (a b : Bool) → a && b ≡ true → (a ≡ true) × (b ≡ true)
-split a b h = (and-left a b h, and-right a b h)
-
 state-parts : (ports : ℕ) (s : InternalState) → stateFits ports s ≡ true → ConsumerTyped (s .«current_consumer_state») → StateGood ports s
 state-parts ports s h t =
     let p = s .«connected_providers» in
-    let x = split (consumerFits ports (s .«current_consumer_state»)) (leb (s .unconstrained .available) ports && providersFit ports p) h in
-    let y = split (leb (s .unconstrained .available) ports) (providersFit ports p) (x .1) in
-    let z = split (ltb (p .mask) (2 ^ ports)) (leb (len p) 4) (y .1) in
+    let x = and-both (consumerFits ports (s .«current_consumer_state»)) (leb (s .unconstrained .available) ports && providersFit ports p) h in
+    let y = and-both (leb (s .unconstrained .available) ports) (providersFit ports p) (x .1) in
+    let z = and-both (ltb (p .mask) (2 ^ ports)) (leb (len p) 4) (y .1) in
     record { consumer = x .0; typed = t; available = y .0; tracked = z .0; few = z .1 }
 
 notices-parts : (ports : ℕ) (n : Notices) → noticesFit ports n ≡ true → ProviderTyped (n .provider) → ConsumerTyped (n .connected) → NoticesGood ports n
 notices-parts ports n h t u =
     let x =
-    split (providerFits ports (n .provider)) (disconnectedFits ports (n .disconnected) && (consumerFits ports (n .connected) && unconstrainedFits ports (n .unconstrained))) h in
-    let y = split (disconnectedFits ports (n .disconnected)) (consumerFits ports (n .connected) && unconstrainedFits ports (n .unconstrained)) (x .1) in
-    let z = split (consumerFits ports (n .connected)) (unconstrainedFits ports (n .unconstrained)) (y .1) in
+    and-both (providerFits ports (n .provider)) (disconnectedFits ports (n .disconnected) && (consumerFits ports (n .connected) && unconstrainedFits ports (n .unconstrained))) h in
+    let y = and-both (disconnectedFits ports (n .disconnected)) (consumerFits ports (n .connected) && unconstrainedFits ports (n .unconstrained)) (x .1) in
+    let z = and-both (consumerFits ports (n .connected)) (unconstrainedFits ports (n .unconstrained)) (y .1) in
     record { provider = x .0; granted = t; disconnected = y .0; connected = z .0; typed = u; unconstrained = z .1 }
 
 pub parts : (s : Service) → Good s → Parts s
@@ -95,14 +92,14 @@ parts s h =
     let phase = phaseFits (g .ports) (g .chargers) (s .phase) in
     let orders = ordersFit (g .chargers) (s .phase) (s .orders) in
     let told = noticesFit (g .ports) n && tells (s .phase) n in
-    let x = split (registrationFits g) (state && eventFits (g .ports) (g .chargers) (s .phase) (s .number) (s .orders) n) (h .fits) in
-    let r = split (leb (g .ports) 16) (leb (g .chargers) 8) (x .0) in
-    let y = split state (eventFits (g .ports) (g .chargers) (s .phase) (s .number) (s .orders) n) (x .1) in
-    let z = split phase (numberFits (s .phase) (s .number) && (orders && told)) (y .1) in
-    let u = split (numberFits (s .phase) (s .number)) (orders && told) (z .1) in
-    let v = split orders told (u .1) in
-    let o = split (leb (ordersLeast (s .phase)) (s .orders)) (leb (s .orders) (ordersMost (g .chargers) (s .phase))) (v .0) in
-    let w = split (noticesFit (g .ports) n) (tells (s .phase) n) (v .1) in
+    let x = and-both (registrationFits g) (state && eventFits (g .ports) (g .chargers) (s .phase) (s .number) (s .orders) n) (h .fits) in
+    let r = and-both (leb (g .ports) 16) (leb (g .chargers) 8) (x .0) in
+    let y = and-both state (eventFits (g .ports) (g .chargers) (s .phase) (s .number) (s .orders) n) (x .1) in
+    let z = and-both phase (numberFits (s .phase) (s .number) && (orders && told)) (y .1) in
+    let u = and-both (numberFits (s .phase) (s .number)) (orders && told) (z .1) in
+    let v = and-both orders told (u .1) in
+    let o = and-both (leb (ordersLeast (s .phase)) (s .orders)) (leb (s .orders) (ordersMost (g .chargers) (s .phase))) (v .0) in
+    let w = and-both (noticesFit (g .ports) n) (tells (s .phase) n) (v .1) in
     record {
       limits = record { ports = leb-true (g .ports) 16 (r .0); chargers = leb-true (g .chargers) 8 (r .1); config = t .config };
       number = t .number;

@@ -38,7 +38,7 @@ use Rattle.machine_service.specs.declared.Service.{Service}
 use Rattle.machine_follows.specs.Machine.{standsAt}
 use Rattle.machine_follows.specs.Served.{numbered}
 use Rattle.machine_follows.proofs.Serves.{service, serviceAt, closed-answer, open-answer, moved-to, last-not-refused, below}
-use Rattle.wire.proofs.ReadWrite.{and-left, and-right}
+use Rattle.power_policy_interface.proofs.Conjunction.{and-left, and-right}
 use Rattle.promise_run.specs.Run.{afterCall, services, CallFits, CallsFit}
 use Rattle.promise_run.specs.Sized.{RecordsFit}
 use Rattle.bytes_service_image.specs.WellFormed.{errorFits, resultFits, numberFits}

@@ -49,7 +49,7 @@ use Rattle.machine_process.specs.Process.{provideIf, provideFor, postProviderOf
 use Rattle.machine_follows.specs.Machine.{standsFor}
 use Rattle.machine_follows.proofs.Serves.{openOrders}
 use Rattle.wire.specs.WellFormed as wire
-use Rattle.wire.proofs.ReadWrite.{and-left, and-right}
+use Rattle.power_policy_interface.proofs.Conjunction.{and-left, and-right}
 use Rattle.promise_run.specs.Sized.{RequestFits, RecordsFit}
 use Rattle.promise_run.proofs.Sized.{both, best-fits, psu-fits, available-le, grant-fits}
 use Rattle.bytes_service_image.specs.Typed.{ConsumerTyped}

@@ -17,7 +17,7 @@ use Rattle.wire.specs.Read.{readPacket}
 use Rattle.wire.specs.WellFormed.{wellFormed, noticesFit, eventFits, pictureFits}
 use Rattle.wire.specs.declared.packet.ReadPacket.{ReadPacket}
 use Rattle.wire.proofs.OnePacket.{read-write}
-use Rattle.wire.proofs.ReadWrite.{and-left, and-right}
+use Rattle.power_policy_interface.proofs.Conjunction.{and-left, and-right}
 use Rattle.desk_follower.specs.Follower.{fresh, taken}
 use Rattle.desk_follower.specs.WellFormed.{Readable}
 use Rattle.desk_follower.specs.declared.Follower.{Follower}

@@ -115,39 +115,39 @@ abbrev mixed : List (List ℕ)
 mixed = picture [] ∷ event two ∷ event two ∷ event one ∷ []
 
 pub bytes-one : event one ≡ 1 ∷ 1 ∷ 0 ∷ 2 ∷ 1 ∷ 2 ∷ 0 ∷ 136 ∷ 39 ∷ 184 ∷ 23 ∷ 0 ∷ []
-unfolding bytes.capabilityBytes bytes.contractBytes bytes.noticeBytes bytes.eventBytes bytes.consumerBytes bytes.portsBytes bytes.pictureBytes number.leb128 number.readNumber parser.field parser.number wire.capability wire.consumer wire.unconstrained wire.consumerDisconnected wire.consumerConnected wire.providerDisconnected wire.providerConnected wire.unconstrainedChanged wire.noticeOf wire.notice wire.eventNotices wire.eventAfter wire.event wire.pictureAfter wire.picture wire.packetOf wire.packet held.noneHeld held.greatest held.above follower.inTurn policy.updateUnconstrainedState policy.attachCharger policy.postConsumerConnected policy.detachCharger policy.disconnectChargers policy.disconnectCurrent policy.connectConsumer policy.connectNewConsumer policy.connectBest policy.updateCurrentConsumer policy.postProviderConnected policy.provide policy.connectProvider policy.removeProvider policy.postProviderRemoved policy.processPsuEvent
+unfolding bytes.capabilityBytes bytes.contractBytes bytes.noticeBytes bytes.eventBytes bytes.consumerBytes bytes.portsBytes bytes.pictureBytes number.leb128 number.readNumber parser.field parser.number wire.capability wire.contract wire.consumer wire.unconstrained wire.consumerDisconnected wire.consumerConnected wire.providerDisconnected wire.providerConnected wire.unconstrainedChanged wire.noticeOf wire.notice wire.eventNotices wire.eventAfter wire.event wire.pictureAfter wire.picture wire.packetOf wire.packet held.noneHeld held.greatest held.above follower.inTurn policy.updateUnconstrainedState policy.attachCharger policy.postConsumerConnected policy.detachCharger policy.disconnectChargers policy.disconnectCurrent policy.connectConsumer policy.connectNewConsumer policy.connectBest policy.updateCurrentConsumer policy.postProviderConnected policy.provide policy.connectProvider policy.removeProvider policy.postProviderRemoved policy.processPsuEvent
 bytes-one = refl
 
 -- without errors and with nothing later among them, packet 2 is shown, as it was held
 pub shows-two : takesBytes fresh mixed .shown ≡ Shown.Picture (record { number = 2; display = heldAt (started (start .registration)) four 2 })
-unfolding bytes.capabilityBytes bytes.contractBytes bytes.noticeBytes bytes.eventBytes bytes.consumerBytes bytes.portsBytes bytes.pictureBytes number.leb128 number.readNumber parser.field parser.number wire.capability wire.consumer wire.unconstrained wire.consumerDisconnected wire.consumerConnected wire.providerDisconnected wire.providerConnected wire.unconstrainedChanged wire.noticeOf wire.notice wire.eventNotices wire.eventAfter wire.event wire.pictureAfter wire.picture wire.packetOf wire.packet held.noneHeld held.greatest held.above follower.inTurn policy.updateUnconstrainedState policy.attachCharger policy.postConsumerConnected policy.detachCharger policy.disconnectChargers policy.disconnectCurrent policy.connectConsumer policy.connectNewConsumer policy.connectBest policy.updateCurrentConsumer policy.postProviderConnected policy.provide policy.connectProvider policy.removeProvider policy.postProviderRemoved policy.processPsuEvent
+unfolding bytes.capabilityBytes bytes.contractBytes bytes.noticeBytes bytes.eventBytes bytes.consumerBytes bytes.portsBytes bytes.pictureBytes number.leb128 number.readNumber parser.field parser.number wire.capability wire.contract wire.consumer wire.unconstrained wire.consumerDisconnected wire.consumerConnected wire.providerDisconnected wire.providerConnected wire.unconstrainedChanged wire.noticeOf wire.notice wire.eventNotices wire.eventAfter wire.event wire.pictureAfter wire.picture wire.packetOf wire.packet held.noneHeld held.greatest held.above follower.inTurn policy.updateUnconstrainedState policy.attachCharger policy.postConsumerConnected policy.detachCharger policy.disconnectChargers policy.disconnectCurrent policy.connectConsumer policy.connectNewConsumer policy.connectBest policy.updateCurrentConsumer policy.postProviderConnected policy.provide policy.connectProvider policy.removeProvider policy.postProviderRemoved policy.processPsuEvent
 shows-two = refl
 
 -- packet 3 has an error: lost, with 3 as floor; the picture of 3 is shown, and packet 4, which tracks the provider, follows
 pub lost-at-three : takesBytes fresh (mixed ++ (event three ∷ [])) .shown ≡ Shown.Lost 3
-unfolding bytes.capabilityBytes bytes.contractBytes bytes.noticeBytes bytes.eventBytes bytes.consumerBytes bytes.portsBytes bytes.pictureBytes number.leb128 number.readNumber parser.field parser.number wire.capability wire.consumer wire.unconstrained wire.consumerDisconnected wire.consumerConnected wire.providerDisconnected wire.providerConnected wire.unconstrainedChanged wire.noticeOf wire.notice wire.eventNotices wire.eventAfter wire.event wire.pictureAfter wire.picture wire.packetOf wire.packet held.noneHeld held.greatest held.above follower.inTurn policy.updateUnconstrainedState policy.attachCharger policy.postConsumerConnected policy.detachCharger policy.disconnectChargers policy.disconnectCurrent policy.connectConsumer policy.connectNewConsumer policy.connectBest policy.updateCurrentConsumer policy.postProviderConnected policy.provide policy.connectProvider policy.removeProvider policy.postProviderRemoved policy.processPsuEvent
+unfolding bytes.capabilityBytes bytes.contractBytes bytes.noticeBytes bytes.eventBytes bytes.consumerBytes bytes.portsBytes bytes.pictureBytes number.leb128 number.readNumber parser.field parser.number wire.capability wire.contract wire.consumer wire.unconstrained wire.consumerDisconnected wire.consumerConnected wire.providerDisconnected wire.providerConnected wire.unconstrainedChanged wire.noticeOf wire.notice wire.eventNotices wire.eventAfter wire.event wire.pictureAfter wire.picture wire.packetOf wire.packet held.noneHeld held.greatest held.above follower.inTurn policy.updateUnconstrainedState policy.attachCharger policy.postConsumerConnected policy.detachCharger policy.disconnectChargers policy.disconnectCurrent policy.connectConsumer policy.connectNewConsumer policy.connectBest policy.updateCurrentConsumer policy.postProviderConnected policy.provide policy.connectProvider policy.removeProvider policy.postProviderRemoved policy.processPsuEvent
 lost-at-three = refl
 
 pub recovers : takesBytes fresh (mixed ++ (event three ∷ picture three ∷ [])) .shown ≡ Shown.Picture (record { number = 3; display = heldAt (started (start .registration)) four 3 })
-unfolding bytes.capabilityBytes bytes.contractBytes bytes.noticeBytes bytes.eventBytes bytes.consumerBytes bytes.portsBytes bytes.pictureBytes number.leb128 number.readNumber parser.field parser.number wire.capability wire.consumer wire.unconstrained wire.consumerDisconnected wire.consumerConnected wire.providerDisconnected wire.providerConnected wire.unconstrainedChanged wire.noticeOf wire.notice wire.eventNotices wire.eventAfter wire.event wire.pictureAfter wire.picture wire.packetOf wire.packet held.noneHeld held.greatest held.above follower.inTurn policy.updateUnconstrainedState policy.attachCharger policy.postConsumerConnected policy.detachCharger policy.disconnectChargers policy.disconnectCurrent policy.connectConsumer policy.connectNewConsumer policy.connectBest policy.updateCurrentConsumer policy.postProviderConnected policy.provide policy.connectProvider policy.removeProvider policy.postProviderRemoved policy.processPsuEvent
+unfolding bytes.capabilityBytes bytes.contractBytes bytes.noticeBytes bytes.eventBytes bytes.consumerBytes bytes.portsBytes bytes.pictureBytes number.leb128 number.readNumber parser.field parser.number wire.capability wire.contract wire.consumer wire.unconstrained wire.consumerDisconnected wire.consumerConnected wire.providerDisconnected wire.providerConnected wire.unconstrainedChanged wire.noticeOf wire.notice wire.eventNotices wire.eventAfter wire.event wire.pictureAfter wire.picture wire.packetOf wire.packet held.noneHeld held.greatest held.above follower.inTurn policy.updateUnconstrainedState policy.attachCharger policy.postConsumerConnected policy.detachCharger policy.disconnectChargers policy.disconnectCurrent policy.connectConsumer policy.connectNewConsumer policy.connectBest policy.updateCurrentConsumer policy.postProviderConnected policy.provide policy.connectProvider policy.removeProvider policy.postProviderRemoved policy.processPsuEvent
 recovers = refl
 
 pub shows-four : takesBytes fresh (mixed ++ (event three ∷ picture three ∷ event four ∷ [])) .shown ≡ Shown.Picture (record { number = 4; display = heldAt (started (start .registration)) four 4 })
-unfolding bytes.capabilityBytes bytes.contractBytes bytes.noticeBytes bytes.eventBytes bytes.consumerBytes bytes.portsBytes bytes.pictureBytes number.leb128 number.readNumber parser.field parser.number wire.capability wire.consumer wire.unconstrained wire.consumerDisconnected wire.consumerConnected wire.providerDisconnected wire.providerConnected wire.unconstrainedChanged wire.noticeOf wire.notice wire.eventNotices wire.eventAfter wire.event wire.pictureAfter wire.picture wire.packetOf wire.packet held.noneHeld held.greatest held.above follower.inTurn policy.updateUnconstrainedState policy.attachCharger policy.postConsumerConnected policy.detachCharger policy.disconnectChargers policy.disconnectCurrent policy.connectConsumer policy.connectNewConsumer policy.connectBest policy.updateCurrentConsumer policy.postProviderConnected policy.provide policy.connectProvider policy.removeProvider policy.postProviderRemoved policy.processPsuEvent
+unfolding bytes.capabilityBytes bytes.contractBytes bytes.noticeBytes bytes.eventBytes bytes.consumerBytes bytes.portsBytes bytes.pictureBytes number.leb128 number.readNumber parser.field parser.number wire.capability wire.contract wire.consumer wire.unconstrained wire.consumerDisconnected wire.consumerConnected wire.providerDisconnected wire.providerConnected wire.unconstrainedChanged wire.noticeOf wire.notice wire.eventNotices wire.eventAfter wire.event wire.pictureAfter wire.picture wire.packetOf wire.packet held.noneHeld held.greatest held.above follower.inTurn policy.updateUnconstrainedState policy.attachCharger policy.postConsumerConnected policy.detachCharger policy.disconnectChargers policy.disconnectCurrent policy.connectConsumer policy.connectNewConsumer policy.connectBest policy.updateCurrentConsumer policy.postProviderConnected policy.provide policy.connectProvider policy.removeProvider policy.postProviderRemoved policy.processPsuEvent
 shows-four = refl
 
 -- the premises of DEM-3b hold of these takes, with n = 0 and k = 2
 
 reads-start : readPacket (picture []) ≡ ReadPacket.Packet (Packet.Picture (pictureOf start))
-unfolding bytes.capabilityBytes bytes.contractBytes bytes.noticeBytes bytes.eventBytes bytes.consumerBytes bytes.portsBytes bytes.pictureBytes number.leb128 number.readNumber parser.field parser.number wire.capability wire.consumer wire.unconstrained wire.consumerDisconnected wire.consumerConnected wire.providerDisconnected wire.providerConnected wire.unconstrainedChanged wire.noticeOf wire.notice wire.eventNotices wire.eventAfter wire.event wire.pictureAfter wire.picture wire.packetOf wire.packet held.noneHeld held.greatest held.above follower.inTurn policy.updateUnconstrainedState policy.attachCharger policy.postConsumerConnected policy.detachCharger policy.disconnectChargers policy.disconnectCurrent policy.connectConsumer policy.connectNewConsumer policy.connectBest policy.updateCurrentConsumer policy.postProviderConnected policy.provide policy.connectProvider policy.removeProvider policy.postProviderRemoved policy.processPsuEvent
+unfolding bytes.capabilityBytes bytes.contractBytes bytes.noticeBytes bytes.eventBytes bytes.consumerBytes bytes.portsBytes bytes.pictureBytes number.leb128 number.readNumber parser.field parser.number wire.capability wire.contract wire.consumer wire.unconstrained wire.consumerDisconnected wire.consumerConnected wire.providerDisconnected wire.providerConnected wire.unconstrainedChanged wire.noticeOf wire.notice wire.eventNotices wire.eventAfter wire.event wire.pictureAfter wire.picture wire.packetOf wire.packet held.noneHeld held.greatest held.above follower.inTurn policy.updateUnconstrainedState policy.attachCharger policy.postConsumerConnected policy.detachCharger policy.disconnectChargers policy.disconnectCurrent policy.connectConsumer policy.connectNewConsumer policy.connectBest policy.updateCurrentConsumer policy.postProviderConnected policy.provide policy.connectProvider policy.removeProvider policy.postProviderRemoved policy.processPsuEvent
 reads-start = refl
 
 reads-one : readPacket (event one) ≡ ReadPacket.Packet (Packet.Event (packetOf (services start one)))
-unfolding bytes.capabilityBytes bytes.contractBytes bytes.noticeBytes bytes.eventBytes bytes.consumerBytes bytes.portsBytes bytes.pictureBytes number.leb128 number.readNumber parser.field parser.number wire.capability wire.consumer wire.unconstrained wire.consumerDisconnected wire.consumerConnected wire.providerDisconnected wire.providerConnected wire.unconstrainedChanged wire.noticeOf wire.notice wire.eventNotices wire.eventAfter wire.event wire.pictureAfter wire.picture wire.packetOf wire.packet held.noneHeld held.greatest held.above follower.inTurn policy.updateUnconstrainedState policy.attachCharger policy.postConsumerConnected policy.detachCharger policy.disconnectChargers policy.disconnectCurrent policy.connectConsumer policy.connectNewConsumer policy.connectBest policy.updateCurrentConsumer policy.postProviderConnected policy.provide policy.connectProvider policy.removeProvider policy.postProviderRemoved policy.processPsuEvent
+unfolding bytes.capabilityBytes bytes.contractBytes bytes.noticeBytes bytes.eventBytes bytes.consumerBytes bytes.portsBytes bytes.pictureBytes number.leb128 number.readNumber parser.field parser.number wire.capability wire.contract wire.consumer wire.unconstrained wire.consumerDisconnected wire.consumerConnected wire.providerDisconnected wire.providerConnected wire.unconstrainedChanged wire.noticeOf wire.notice wire.eventNotices wire.eventAfter wire.event wire.pictureAfter wire.picture wire.packetOf wire.packet held.noneHeld held.greatest held.above follower.inTurn policy.updateUnconstrainedState policy.attachCharger policy.postConsumerConnected policy.detachCharger policy.disconnectChargers policy.disconnectCurrent policy.connectConsumer policy.connectNewConsumer policy.connectBest policy.updateCurrentConsumer policy.postProviderConnected policy.provide policy.connectProvider policy.removeProvider policy.postProviderRemoved policy.processPsuEvent
 reads-one = refl
 
 reads-two : readPacket (event two) ≡ ReadPacket.Packet (Packet.Event (packetOf (services start two)))
-unfolding bytes.capabilityBytes bytes.contractBytes bytes.noticeBytes bytes.eventBytes bytes.consumerBytes bytes.portsBytes bytes.pictureBytes number.leb128 number.readNumber parser.field parser.number wire.capability wire.consumer wire.unconstrained wire.consumerDisconnected wire.consumerConnected wire.providerDisconnected wire.providerConnected wire.unconstrainedChanged wire.noticeOf wire.notice wire.eventNotices wire.eventAfter wire.event wire.pictureAfter wire.picture wire.packetOf wire.packet held.noneHeld held.greatest held.above follower.inTurn policy.updateUnconstrainedState policy.attachCharger policy.postConsumerConnected policy.detachCharger policy.disconnectChargers policy.disconnectCurrent policy.connectConsumer policy.connectNewConsumer policy.connectBest policy.updateCurrentConsumer policy.postProviderConnected policy.provide policy.connectProvider policy.removeProvider policy.postProviderRemoved policy.processPsuEvent
+unfolding bytes.capabilityBytes bytes.contractBytes bytes.noticeBytes bytes.eventBytes bytes.consumerBytes bytes.portsBytes bytes.pictureBytes number.leb128 number.readNumber parser.field parser.number wire.capability wire.contract wire.consumer wire.unconstrained wire.consumerDisconnected wire.consumerConnected wire.providerDisconnected wire.providerConnected wire.unconstrainedChanged wire.noticeOf wire.notice wire.eventNotices wire.eventAfter wire.event wire.pictureAfter wire.picture wire.packetOf wire.packet held.noneHeld held.greatest held.above follower.inTurn policy.updateUnconstrainedState policy.attachCharger policy.postConsumerConnected policy.detachCharger policy.disconnectChargers policy.disconnectCurrent policy.connectConsumer policy.connectNewConsumer policy.connectBest policy.updateCurrentConsumer policy.postProviderConnected policy.provide policy.connectProvider policy.removeProvider policy.postProviderRemoved policy.processPsuEvent
 reads-two = refl
 
 abbrev later : List (List ℕ)
@@ -237,7 +237,7 @@ handed = (
 )
 
 shows-start : takesBytes fresh (picture [] ∷ []) .shown ≡ Shown.Picture (pictureOf start)
-unfolding bytes.capabilityBytes bytes.contractBytes bytes.noticeBytes bytes.eventBytes bytes.consumerBytes bytes.portsBytes bytes.pictureBytes number.leb128 number.readNumber parser.field parser.number wire.capability wire.consumer wire.unconstrained wire.consumerDisconnected wire.consumerConnected wire.providerDisconnected wire.providerConnected wire.unconstrainedChanged wire.noticeOf wire.notice wire.eventNotices wire.eventAfter wire.event wire.pictureAfter wire.picture wire.packetOf wire.packet held.noneHeld held.greatest held.above follower.inTurn policy.updateUnconstrainedState policy.attachCharger policy.postConsumerConnected policy.detachCharger policy.disconnectChargers policy.disconnectCurrent policy.connectConsumer policy.connectNewConsumer policy.connectBest policy.updateCurrentConsumer policy.postProviderConnected policy.provide policy.connectProvider policy.removeProvider policy.postProviderRemoved policy.processPsuEvent
+unfolding bytes.capabilityBytes bytes.contractBytes bytes.noticeBytes bytes.eventBytes bytes.consumerBytes bytes.portsBytes bytes.pictureBytes number.leb128 number.readNumber parser.field parser.number wire.capability wire.contract wire.consumer wire.unconstrained wire.consumerDisconnected wire.consumerConnected wire.providerDisconnected wire.providerConnected wire.unconstrainedChanged wire.noticeOf wire.notice wire.eventNotices wire.eventAfter wire.event wire.pictureAfter wire.picture wire.packetOf wire.packet held.noneHeld held.greatest held.above follower.inTurn policy.updateUnconstrainedState policy.attachCharger policy.postConsumerConnected policy.detachCharger policy.disconnectChargers policy.disconnectCurrent policy.connectConsumer policy.connectNewConsumer policy.connectBest policy.updateCurrentConsumer policy.postProviderConnected policy.provide policy.connectProvider policy.removeProvider policy.postProviderRemoved policy.processPsuEvent
 shows-start = refl
 
 pub by-theorem : FollowerShows (takesBytes fresh mixed) 2 (writer .held 2)

@@ -41,7 +41,7 @@ use Rattle.abstract_policy.specs.declared.state.Records.{Records}
 use Rattle.abstract_policy.specs.declared.state.Registration.{Registration}
 use Rattle.abstract_policy.specs.declared.order.Order.{Order}
 use Rattle.wire.specs.WellFormed.{contractFits, noticeFits, noticesFit, consumerFits}
-use Rattle.wire.proofs.ReadWrite.{and-left, and-right}
+use Rattle.power_policy_interface.proofs.Conjunction.{and-left, and-right}
 use Rattle.promise_run.specs.Sized.{OfferFits, RequestFits, PsuFits, RecordsFit}
 
 -- what is held and told

@@ -23,7 +23,7 @@ use Rattle.interface_display.proofs.Four.{at-most-four}
 use Rattle.wire.specs.Number.{leb128}
 use Rattle.wire.specs.Bytes.{capabilityBytes, contractBytes, noticeBytes, allBytes, portsBytes, consumerBytes, eventBytes, pictureBytes, packetBytes}
 use Rattle.wire.specs.WellFormed.{contractFits, noticeFits, noticesFit, consumerFits, eventFits, pictureFits, wellFormed}
-use Rattle.wire.proofs.ReadWrite.{and-left, and-right}
+use Rattle.power_policy_interface.proofs.Conjunction.{and-left, and-right}
 use Rattle.wire.proofs.Stores.{length-to, length-short}
 use Rattle.wire.proofs.Tracked.{count-ports}
 

@@ -3,7 +3,7 @@
 -- Assumes nothing.
 use mathlib.Core.Path.{_≡_, refl, ap, sym, _∙_}
 use mathlib.Core.Bool.{Bool, true, false, _&&_}
-use mathlib.Core.List.{List, [], _∷_, _++_, append-assoc}
+use mathlib.Core.List.{List, [], _∷_, _++_, append-assoc, append-nil}
 use Prim.Native.Nat.{ℕ, zero, suc, _+_, _*_, _/_, _%_, _^_, _≤_, _<_}
 use native.Mathlib.Nat.{add-zero, mul-zero, two-pow-succ}
 use native.Mathlib.Omega.{arith}
@@ -12,6 +12,7 @@ use lib.ListN.{length}
 use borrow.Author.Tests.{le-leb, leb-true, lt-ltb, eq-eqb, ne-eqb, eqb-true, eqb-false}
 use Rattle.power_policy_interface.specs.declared.service.UnconstrainedState.{UnconstrainedState}
 use Rattle.power_policy_interface.specs.declared.service.event.Event.{Event}
+use Rattle.power_policy_interface.proofs.Conjunction.{and-both}
 use Rattle.interface_display.proofs.Four.{rebuilt, rebuilt-padded, rebuilt-listed}
 use Rattle.interface_display.specs.Notices.{empty, pushed, listed, lengthOf, padded}
 use Rattle.interface_display.specs.Providers.{ones, len}
@@ -28,7 +29,7 @@ use Rattle.wire.specs.Read.{packetRead, readPacket}
 use Rattle.wire.specs.WellFormed.{noticesFit, consumerFits, eventFits, pictureFits, wellFormed}
 use Rattle.wire.specs.declared.packet.ReadPacket.{ReadPacket}
 use Rattle.wire.proofs.OneNumber.{AllBytes}
-use Rattle.wire.proofs.ReadWrite.{appended, appended-rebuilt, append-none, event-read-write}
+use Rattle.wire.proofs.ReadWrite.{appended, appended-rebuilt, event-read-write}
 use Rattle.wire.proofs.Tracked.{addAll, odd, even, count-ports, picture-read-write}
 use Rattle.wire.proofs.WriteRead.{then-told, rest-bytes, byte-told, holds-told, field-told, number-told, consumer-told, unconstrained-told, notice-told}
 
@@ -80,7 +81,7 @@ event-made n answer orders count l p q q1 q2 q3 q4 e0 e1 e2 e3 h0 h1 h2 h3 h4 t 
     let form : l ≡ rebuilt (t .events) = t .made ∙ appended-rebuilt (t .events) small in
     let list : listed l ≡ t .events = ap listed form ∙ rebuilt-listed (t .events) small in
     let c : lengthOf l ≡ count = ap length list ∙ t .count in
-    let g : q4 ≡ allBytes (listed l) = t .front ∙ (append-none (allBytes (t .events)) ∙ ap allBytes (sym list)) in
+    let g : q4 ≡ allBytes (listed l) = t .front ∙ (append-nil (allBytes (t .events)) ∙ ap allBytes (sym list)) in
     let b : 1 ∷ q ≡ 1 ∷ (leb128 n ++ (answer ∷ (leb128 orders ++ (lengthOf l ∷ allBytes (listed l))))) =
     ap (λ (x : List ℕ). 1 ∷ x)
     (e0
@@ -186,12 +187,6 @@ record Ports (k low a : ℕ) (s : List ℕ) (q : Providers) (r : List ℕ) : Typ
   made : q ≡ record { mask = addAll list a }
   front : s ≡ list ++ r
 
-and-both : (a b : Bool) → a && b ≡ true → (a ≡ true) × (b ≡ true)
-and-both true true e = (refl, refl)
-and-both true false e = absurd (let z : _≡_ {A = ℕ} 0 1 = cc in omega arith)
-and-both false true e = absurd (let z : _≡_ {A = ℕ} 0 1 = cc in omega arith)
-and-both false false e = absurd (let z : _≡_ {A = ℕ} 0 1 = cc in omega arith)
-
 ports-told : (k low a : ℕ) (s : List ℕ) (q : Providers) (r : List ℕ) → ports k low a s ≡ parsed q r → Ports k low a s q r
 unfolding addAll
 ports-told zero low a s q r p =
@@ -223,7 +218,7 @@ tracked-told n k s q e t =
     let d = decode n 0 (t .list) (omega arith) (t .rising) in
     let m : q .mask ≡ d .value = ap (λ (x : Providers). x .mask) (t .made) ∙ (d .sum 0 ∙ omega arith) in
     let p : portsFrom n 0 (q .mask) ≡ t .list = ap (portsFrom n 0) m ∙ d .same in
-    (t .front ∙ (append-none (t .list) ∙ sym p), sym (count-ports n 0 (q .mask)) ∙ (ap length p ∙ t .count), rw m (d .small))
+    (t .front ∙ (append-nil (t .list) ∙ sym p), sym (count-ports n 0 (q .mask)) ∙ (ap length p ∙ t .count), rw m (d .small))
 
 tracked-whole : (k : ℕ) (s : List ℕ) (q : Providers) → Ports k 0 0 s q [] → Tracked k s q
 unfolding portsBytes

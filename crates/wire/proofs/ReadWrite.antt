@@ -1,8 +1,8 @@
 -- Reading what was written: each field is read back from its own bytes, and the rest is what follows them.
 -- Assumes nothing.
 use mathlib.Core.Path.{_≡_, refl, ap, _∙_}
-use mathlib.Core.Bool.{Bool, true, false, _&&_}
-use mathlib.Core.List.{List, [], _∷_, _++_, append-assoc}
+use mathlib.Core.Bool.{Bool, true, false}
+use mathlib.Core.List.{List, [], _∷_, _++_, append-assoc, append-nil}
 use Prim.Native.Nat.{ℕ, _≤_}
 use native.Mathlib.Omega.{arith}
 use lib.Dec.{eqb, leb, ltb}
@@ -14,6 +14,7 @@ use Rattle.power_policy_interface.specs.declared.capability.ConsumerFlags.{Cons
 use Rattle.power_policy_interface.specs.declared.service.UnconstrainedState.{UnconstrainedState}
 use Rattle.power_policy_interface.specs.declared.service.event.Event.{Event}
 use Rattle.power_policy_interface.proofs.OneByte.{consumer-read-write, provider-read-write, reason-read-write}
+use Rattle.power_policy_interface.proofs.Conjunction.{and-left, and-right}
 use Rattle.interface_display.specs.Notices.{empty, pushed, listed, lengthOf, padded}
 use Rattle.interface_display.specs.declared.notices.Notices.{Notices}
 use Rattle.interface_display.specs.declared.packet.EventPacket.{EventPacket}
@@ -21,21 +22,10 @@ use Rattle.interface_display.specs.declared.packet.Packet.{Packet}
 use Rattle.interface_display.proofs.Four.{at-most-four, rebuilt, padded-rebuilt}
 use Rattle.wire.specs.Number.{leb128}
 use Rattle.wire.specs.Parser.{parsed, field, number}
-use Rattle.wire.specs.Packet.{capability, consumer, unconstrained, consumerDisconnected, consumerConnected, providerDisconnected, providerConnected, unconstrainedChanged, noticeOf, notice, notices, eventNotices, eventAfter, event, packetOf, packet}
+use Rattle.wire.specs.Packet.{capability, contract, consumer, unconstrained, consumerDisconnected, consumerConnected, providerDisconnected, providerConnected, unconstrainedChanged, noticeOf, notice, notices, eventNotices, eventAfter, event, packetOf, packet}
 use Rattle.wire.specs.Bytes.{capabilityBytes, contractBytes, unconstrainedBytes, noticeBytes, allBytes, eventBytes}
 use Rattle.wire.specs.WellFormed.{contractFits, noticeFits, noticesFit, eventFits}
 use Rattle.wire.proofs.OneNumber.{number-back}
-
--- both halves of a test
-
-pub and-left : (a b : Bool) → a && b ≡ true → a ≡ true
-and-left true b e = refl
-and-left false b e = e
-
-pub and-right : (a b : Bool) → a && b ≡ true → b ≡ true
-and-right true b e = e
-and-right false true e = refl
-and-right false false e = e
 
 pub field-back : (most b : ℕ) (r : List ℕ) → leb b most ≡ true → field most (b ∷ r) ≡ parsed b r
 unfolding field
@@ -50,18 +40,19 @@ capability-back c r e =
     let m' : c .«current_ma» ≤ 4294967295 = omega arith in
     rw (append-assoc (leb128 (c .«voltage_mv»)) (leb128 (c .«current_ma»)) r, number-back 65535 (c .«voltage_mv») (leb128 (c .«current_ma») ++ r) v v', number-back 65535 (c .«current_ma») r m m')
 
-module _ (port : ℕ) (c : PowerCapability) (r : List ℕ) (e : contractFits port c ≡ true) where
-  p-fits : leb port 15 ≡ true
-  p-fits = and-left (leb port 15) (capabilityFits c) e
+contract-back : (port : ℕ) (c : PowerCapability) (b : ℕ) (r : List ℕ) → contractFits port c ≡ true
+    → contract (contractBytes port c b ++ r) ≡ parsed (record { port = port; power = c; flags = b }) r
+unfolding contract contractBytes
+contract-back port c b r e =
+    let p = and-left (leb port 15) (capabilityFits c) e in
+    let q = and-right (leb port 15) (capabilityFits c) e in
+    rw (field-back 15 port ((capabilityBytes c ++ (b ∷ [])) ++ r) p, append-assoc (capabilityBytes c) (b ∷ []) r, capability-back c (b ∷ r) q)
 
-  c-fits : capabilityFits c ≡ true
-  c-fits = and-right (leb port 15) (capabilityFits c) e
-
-  pub consumer-back : (f : ConsumerFlags) → consumer (contractBytes port c (consumerFlagsByte f) ++ r)
-      ≡ parsed (record { psu = port; «consumer_power_capability» = record { capability = c; flags = f } }) r
-  unfolding consumer contractBytes
-  consumer-back f =
-      rw (field-back 15 port ((capabilityBytes c ++ (consumerFlagsByte f ∷ [])) ++ r) p-fits, append-assoc (capabilityBytes c) (consumerFlagsByte f ∷ []) r, capability-back c (consumerFlagsByte f ∷ r) c-fits, consumer-read-write f)
+pub consumer-back : (port : ℕ) (c : PowerCapability) (r : List ℕ) → contractFits port c ≡ true → (f : ConsumerFlags)
+    → consumer (contractBytes port c (consumerFlagsByte f) ++ r)
+    ≡ parsed (record { psu = port; «consumer_power_capability» = record { capability = c; flags = f } }) r
+unfolding consumer
+consumer-back port c r e f = rw (contract-back port c (consumerFlagsByte f) r e, consumer-read-write f)
 
 bit-fits : (u : Bool) → leb (bit u) 1 ≡ true
 bit-fits true = refl
@@ -77,12 +68,12 @@ unconstrained-back u r e =
     rw (field-back 1 (bit (u .unconstrained)) (u .available ∷ r) (bit-fits (u .unconstrained)), field-back 16 (u .available) r e, bit-test (u .unconstrained))
 
 pub notice-back : (e : Event) (r : List ℕ) → noticeFits e ≡ true → notice (noticeBytes e ++ r) ≡ parsed e r
-unfolding notice noticeOf noticeBytes consumerDisconnected consumerConnected providerDisconnected providerConnected unconstrainedChanged contractBytes
+unfolding notice noticeOf noticeBytes consumerDisconnected consumerConnected providerDisconnected providerConnected unconstrainedChanged
 notice-back (Event.ConsumerDisconnected port d) r h = rw (field-back 15 port (disconnectByte d ∷ r) h, reason-read-write d)
 notice-back (Event.ConsumerConnected port c) r h = rw (consumer-back port (c .capability) r h (c .flags))
 notice-back (Event.ProviderDisconnected port) r h = rw (field-back 15 port r h)
 notice-back (Event.ProviderConnected port c) r h =
-    rw (field-back 15 port ((capabilityBytes (c .capability) ++ (providerFlagsByte (c .flags) ∷ [])) ++ r) (p-fits port (c .capability) r h), append-assoc (capabilityBytes (c .capability)) (providerFlagsByte (c .flags) ∷ []) r, capability-back (c .capability) (providerFlagsByte (c .flags) ∷ r) (c-fits port (c .capability) r h), provider-read-write (c .flags))
+    rw (contract-back port (c .capability) (providerFlagsByte (c .flags)) r h, provider-read-write (c .flags))
 notice-back (Event.Unconstrained u) r h = rw (unconstrained-back u r h)
 
 -- the notices that are read after those before them
@@ -112,10 +103,6 @@ all-listed n h = appended-rebuilt (listed n) (at-most-four n) ∙ padded-rebuilt
 count-fits : (n : Notices) → leb (lengthOf n) 4 ≡ true
 count-fits n = le-leb (lengthOf n) 4 (at-most-four n)
 
-pub append-none : (l : List ℕ) → l ++ [] ≡ l
-append-none [] = refl
-append-none (x ∷ l) = ap (λ (m : List ℕ). x ∷ m) (append-none l)
-
 -- an event packet
 
 pub event-read-write : (p : EventPacket) → eventFits p ≡ true → packet (eventBytes p) ≡ parsed (Packet.Event p) []
@@ -135,5 +122,5 @@ event-read-write p h =
     let n = p .notices in
     let tail = lengthOf n ∷ allBytes (listed n) in
     let all : notices (lengthOf n) empty (allBytes (listed n)) ≡ parsed n [] =
-    rw (← append-none (allBytes (listed n))) (notices-back (listed n) empty [] f ∙ ap (λ (m : Notices). parsed m []) (all-listed n g)) in
+    rw (← append-nil (allBytes (listed n))) (notices-back (listed n) empty [] f ∙ ap (λ (m : Notices). parsed m []) (all-listed n g)) in
     rw (number-back 4294967295 (p .number) (p .answer ∷ (leb128 (p .orders) ++ tail)) b b, a, field-back 10 (p .answer) (leb128 (p .orders) ++ tail) c, number-back 4294967295 (p .orders) tail o o, d, field-back 4 (lengthOf n) (allBytes (listed n)) (count-fits n), all)

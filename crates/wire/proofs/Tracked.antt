@@ -3,7 +3,7 @@
 -- Assumes nothing.
 use mathlib.Core.Path.{_≡_, refl, ap, sym, _∙_}
 use mathlib.Core.Bool.{Bool, true, false, cond}
-use mathlib.Core.List.{List, [], _∷_, _++_}
+use mathlib.Core.List.{List, [], _∷_, _++_, append-nil}
 use Prim.Native.Nat.{ℕ, zero, suc, _+_, _*_, _/_, _%_, _^_, _≤_, _<_}
 use native.Mathlib.Nat.{add-assoc, add-zero, zero-add, mul-zero, mul-one, mul-add, add-mul, div-one, div-div-eq-div-mul, pow-succ', two-pow-succ, le-refl}
 use native.Mathlib.Numerals.{one-add}
@@ -12,6 +12,7 @@ use lib.Dec.{eqb, leb, ltb}
 use lib.ListN.{length}
 use borrow.Author.Tests.{le-leb, leb-true, ltb-true, eqb-true, eqb-false}
 use Rattle.power_policy_interface.specs.Capability.{consumerFlagsByte}
+use Rattle.power_policy_interface.proofs.Conjunction.{and-left, and-right}
 use Rattle.interface_display.specs.Providers.{bitAt, ones, len}
 use Rattle.interface_display.specs.declared.OptionAvailableConsumer.{OptionAvailableConsumer}
 use Rattle.interface_display.specs.declared.packet.Packet.{Packet}
@@ -22,7 +23,7 @@ use Rattle.wire.specs.Packet.{ports, consumerGiven, pictureAfter, pictur
 use Rattle.wire.specs.Bytes.{portsFrom, portsBytes, contractBytes, consumerBytes, pictureBytes, unconstrainedBytes}
 use Rattle.wire.specs.WellFormed.{consumerFits, pictureFits}
 use Rattle.wire.proofs.OneNumber.{number-back}
-use Rattle.wire.proofs.ReadWrite.{and-left, and-right, field-back, consumer-back, unconstrained-back, append-none}
+use Rattle.wire.proofs.ReadWrite.{field-back, consumer-back, unconstrained-back}
 
 -- how many there are
 
@@ -108,7 +109,7 @@ tracked : (n m : ℕ) → n ≤ 16 → m < 2 ^ n → ports (ones m n) 0 0 (ports
 tracked n m h k =
     let e : addAll (portsFrom n 0 m) 0 ≡ m = sum-ports n 0 m 0 k ∙ omega arith in
     ap (λ (j : ℕ). ports j 0 0 (portsFrom n 0 m)) (sym (count-ports n 0 m))
-    ∙ (ap (ports (length (portsFrom n 0 m)) 0 0) (sym (append-none (portsFrom n 0 m)))
+    ∙ (ap (ports (length (portsFrom n 0 m)) 0 0) (sym (append-nil (portsFrom n 0 m)))
     ∙ (ports-back n 0 m 0 0 [] (omega arith) (omega arith) ∙ ap (λ (j : ℕ). parsed (record { mask = j }) []) e))
 
 pub tracked-back : (q : Providers) → q .mask < 65536 → ports (len q) 0 0 (portsBytes (q .mask)) ≡ parsed q []

@@ -24,7 +24,7 @@ use Rattle.power_policy_interface.proofs.OneByte.{consumer-write-read, provider
 use Rattle.interface_display.specs.declared.AvailableConsumer.{AvailableConsumer}
 use Rattle.wire.specs.Number.{leb128, readNumber}
 use Rattle.wire.specs.Parser.{Parsed, refused, parsed, Parser, then, byte, holds, field, number, numberRest}
-use Rattle.wire.specs.Packet.{consumerFlagsGiven, providerFlagsGiven, reasonGiven, capability, consumer, unconstrained, consumerDisconnected, consumerConnected, providerDisconnected, providerConnected, unconstrainedChanged, noticeOf, notice}
+use Rattle.wire.specs.Packet.{consumerFlagsGiven, providerFlagsGiven, reasonGiven, capability, Contract, contract, consumer, unconstrained, consumerDisconnected, consumerConnected, providerDisconnected, providerConnected, unconstrainedChanged, noticeOf, notice}
 use Rattle.wire.specs.Bytes.{capabilityBytes, contractBytes, unconstrainedBytes, noticeBytes}
 use Rattle.wire.specs.WellFormed.{contractFits, noticeFits}
 use Rattle.wire.specs.declared.number.ReadNumber.{ReadNumber}
@@ -106,13 +106,43 @@ capability-told s c r h e =
           fit = ap capabilityFits (sym f) ∙ rw (le-leb v 65535 hv, le-leb m 65535 hm);
         }
 
--- port, mV, mA, flags
+-- port, mV, mA, and the flags as a byte
 
 contract-front : (port b : ℕ) (c : PowerCapability) (s q w r : List ℕ) → s ≡ port ∷ q → q ≡ capabilityBytes c ++ w → w ≡ b ∷ r
     → s ≡ contractBytes port c b ++ r
 unfolding contractBytes
 contract-front port b c s q w r e f g =
     e ∙ ap (λ (l : List ℕ). port ∷ l) (f ∙ (ap (λ (l : List ℕ). capabilityBytes c ++ l) g ∙ sym (append-assoc (capabilityBytes c) (b ∷ []) r)))
+
+abbrev contractBytesOf : Contract → List ℕ
+contractBytesOf k = contractBytes (k .port) (k .power) (k .flags)
+
+abbrev contractFitsOf : Contract → Bool
+contractFitsOf k = contractFits (k .port) (k .power)
+
+contract-told : (s : List ℕ) (k : Contract) (r : List ℕ) → AllBytes s → contract s ≡ parsed k r → Read contractBytesOf contractFitsOf s k r
+unfolding contract
+contract-told s k r h e =
+    let t = then-told (field 15 s) _ k r e in
+    let f = field-told 15 s (t .value) (t .rest) (t .first) in
+    let u = then-told (capability (t .rest)) _ k r (t .second) in
+    let g = capability-told (t .rest) (u .value) (u .rest) (rest-bytes s (t .value ∷ []) (t .rest) (f .0) h) (u .first) in
+    let v = then-told (byte (u .rest)) _ k r (u .second) in
+    let b = byte-told (u .rest) (v .value) (v .rest) (v .first) in
+    made (t .value) (u .value) (v .value) (v .rest)
+    (contract-front (t .value) (v .value) (u .value) s (t .rest) (u .rest) (v .rest) (f .0) (g .front) b)
+    (f .1)
+    (g .fit)
+    (v .second)
+  where
+    made : (port : ℕ) (c : PowerCapability) (b : ℕ) (w : List ℕ) → s ≡ contractBytes port c b ++ w
+        → leb port 15 ≡ true → capabilityFits c ≡ true
+        → _≡_ {A = Parsed Contract} (parsed (record { port = port; power = c; flags = b }) w) (parsed k r)
+        → Read contractBytesOf contractFitsOf s k r
+    made port c b w p hp hc q =
+        let d : record { port = port; power = c; flags = b } ≡ k = cc in
+        let z : w ≡ r = cc in
+        record { front = p ∙ (λ i. contractBytesOf (d i) ++ z i); fit = ap contractFitsOf (sym d) ∙ rw (hp, hc) }
 
 consumer-flags-told : (o : OptionConsumerFlags) (s : List ℕ) (f : ConsumerFlags) (r : List ℕ) → consumerFlagsGiven o s ≡ parsed f r
     → (o ≡ OptionConsumerFlags.Some f) × (s ≡ r)
@@ -143,29 +173,24 @@ pub consumer-told : (s : List ℕ) (a : AvailableConsumer) (r : List ℕ) → Al
     → Read consumerBytesOf consumerFitsOf s a r
 unfolding consumer
 consumer-told s a r h e =
-    let t = then-told (field 15 s) _ a r e in
-    let f = field-told 15 s (t .value) (t .rest) (t .first) in
-    let u = then-told (capability (t .rest)) _ a r (t .second) in
-    let g = capability-told (t .rest) (u .value) (u .rest) (rest-bytes s (t .value ∷ []) (t .rest) (f .0) h) (u .first) in
-    let v = then-told (byte (u .rest)) _ a r (u .second) in
-    let k = byte-told (u .rest) (v .value) (v .rest) (v .first) in
-    let w = then-told (consumerFlagsGiven (consumerFlagsFrom (v .value)) (v .rest)) _ a r (v .second) in
-    let x = consumer-flags-told (consumerFlagsFrom (v .value)) (v .rest) (w .value) (w .rest) (w .first) in
-    let b = consumer-write-read (v .value) (w .value) (x .0) in
-    made (t .value) (u .value) (w .value) (w .rest)
-    (contract-front (t .value) (consumerFlagsByte (w .value)) (u .value) s (t .rest) (u .rest) (w .rest) (f .0) (g .front) (k ∙ (λ i. b i ∷ x .1 i)))
-    (f .1)
+    let t = then-told (contract s) _ a r e in
+    let g = contract-told s (t .value) (t .rest) h (t .first) in
+    let w = then-told (consumerFlagsGiven (consumerFlagsFrom (t .value .flags)) (t .rest)) _ a r (t .second) in
+    let x = consumer-flags-told (consumerFlagsFrom (t .value .flags)) (t .rest) (w .value) (w .rest) (w .first) in
+    let b = consumer-write-read (t .value .flags) (w .value) (x .0) in
+    made (t .value) (w .value) (w .rest)
+    (g .front ∙ (λ i. contractBytes (t .value .port) (t .value .power) (b i) ++ x .1 i))
     (g .fit)
     (w .second)
   where
-    made : (port : ℕ) (c : PowerCapability) (f : ConsumerFlags) (w : List ℕ) → s ≡ contractBytes port c (consumerFlagsByte f) ++ w
-        → leb port 15 ≡ true → capabilityFits c ≡ true
-        → _≡_ {A = Parsed AvailableConsumer} (parsed (record { psu = port; «consumer_power_capability» = record { capability = c; flags = f } }) w) (parsed a r)
+    made : (c : Contract) (f : ConsumerFlags) (w : List ℕ) → s ≡ contractBytes (c .port) (c .power) (consumerFlagsByte f) ++ w
+        → contractFitsOf c ≡ true
+        → _≡_ {A = Parsed AvailableConsumer} (parsed (record { psu = c .port; «consumer_power_capability» = record { capability = c .power; flags = f } }) w) (parsed a r)
         → Read consumerBytesOf consumerFitsOf s a r
-    made port c f w p hp hc k =
-        let d : record { psu = port; «consumer_power_capability» = record { capability = c; flags = f } } ≡ a = cc in
+    made c f w p hf k =
+        let d : record { psu = c .port; «consumer_power_capability» = record { capability = c .power; flags = f } } ≡ a = cc in
         let z : w ≡ r = cc in
-        record { front = p ∙ (λ i. consumerBytesOf (d i) ++ z i); fit = ap consumerFitsOf (sym d) ∙ rw (hp, hc) }
+        record { front = p ∙ (λ i. consumerBytesOf (d i) ++ z i); fit = ap consumerFitsOf (sym d) ∙ hf }
 
 -- both unconstrained figures
 
@@ -252,29 +277,24 @@ module _ (q : List ℕ) (e : Event) (r : List ℕ) where
   four-told : AllBytes q → providerConnected q ≡ parsed e r → Read noticeBytes noticeFits (4 ∷ q) e r
   unfolding providerConnected noticeBytes
   four-told h p =
-      let t = then-told (field 15 q) _ e r p in
-      let f = field-told 15 q (t .value) (t .rest) (t .first) in
-      let u = then-told (capability (t .rest)) _ e r (t .second) in
-      let g = capability-told (t .rest) (u .value) (u .rest) (rest-bytes q (t .value ∷ []) (t .rest) (f .0) h) (u .first) in
-      let v = then-told (byte (u .rest)) _ e r (u .second) in
-      let k = byte-told (u .rest) (v .value) (v .rest) (v .first) in
-      let w = then-told (providerFlagsGiven (providerFlagsFrom (v .value)) (v .rest)) _ e r (v .second) in
-      let x = provider-flags-told (providerFlagsFrom (v .value)) (v .rest) (w .value) (w .rest) (w .first) in
-      let b = provider-write-read (v .value) (w .value) (x .0) in
-      made (t .value) (u .value) (w .value) (w .rest)
-      (contract-front (t .value) (providerFlagsByte (w .value)) (u .value) q (t .rest) (u .rest) (w .rest) (f .0) (g .front) (k ∙ (λ i. b i ∷ x .1 i)))
-      (f .1)
+      let t = then-told (contract q) _ e r p in
+      let g = contract-told q (t .value) (t .rest) h (t .first) in
+      let w = then-told (providerFlagsGiven (providerFlagsFrom (t .value .flags)) (t .rest)) _ e r (t .second) in
+      let x = provider-flags-told (providerFlagsFrom (t .value .flags)) (t .rest) (w .value) (w .rest) (w .first) in
+      let b = provider-write-read (t .value .flags) (w .value) (x .0) in
+      made (t .value) (w .value) (w .rest)
+      (g .front ∙ (λ i. contractBytes (t .value .port) (t .value .power) (b i) ++ x .1 i))
       (g .fit)
       (w .second)
     where
-      made : (port : ℕ) (c : PowerCapability) (f : ProviderFlags) (w : List ℕ) → q ≡ contractBytes port c (providerFlagsByte f) ++ w
-          → leb port 15 ≡ true → capabilityFits c ≡ true
-          → _≡_ {A = Parsed Event} (parsed (Event.ProviderConnected port (record { capability = c; flags = f })) w) (parsed e r)
+      made : (c : Contract) (f : ProviderFlags) (w : List ℕ) → q ≡ contractBytes (c .port) (c .power) (providerFlagsByte f) ++ w
+          → contractFitsOf c ≡ true
+          → _≡_ {A = Parsed Event} (parsed (Event.ProviderConnected (c .port) (record { capability = c .power; flags = f })) w) (parsed e r)
           → Read noticeBytes noticeFits (4 ∷ q) e r
-      made port c f w z hp hc k =
-          let n : Event.ProviderConnected port (record { capability = c; flags = f }) ≡ e = cc in
+      made c f w z hf k =
+          let n : Event.ProviderConnected (c .port) (record { capability = c .power; flags = f }) ≡ e = cc in
           let y : w ≡ r = cc in
-          record { front = ap (λ (l : List ℕ). 4 ∷ l) z ∙ (λ i. noticeBytes (n i) ++ y i); fit = ap noticeFits (sym n) ∙ rw (hp, hc) }
+          record { front = ap (λ (l : List ℕ). 4 ∷ l) z ∙ (λ i. noticeBytes (n i) ++ y i); fit = ap noticeFits (sym n) ∙ hf }
 
   five-told : unconstrainedChanged q ≡ parsed e r → Read noticeBytes noticeFits (5 ∷ q) e r
   unfolding unconstrainedChanged noticeBytes

@@ -44,14 +44,24 @@ capability = do
   ma ← number 65535
   done (record { «voltage_mv» = mv; «current_ma» = ma })
 
--- port, mV, mA, flags
-unfoldable pub consumer : Parser AvailableConsumer
-consumer = do
+-- port, mV, mA, and the flags as a byte
+pub record Contract : Type 0 where
+  pub port : ℕ
+  pub power : PowerCapability
+  pub flags : ℕ
+
+unfoldable pub contract : Parser Contract
+contract = do
   port ← field 15
   c ← capability
   b ← byte
-  f ← consumerFlagsGiven (consumerFlagsFrom b)
-  done (record { psu = port; «consumer_power_capability» = record { capability = c; flags = f } })
+  done (record { port = port; power = c; flags = b })
+
+unfoldable pub consumer : Parser AvailableConsumer
+consumer = do
+  c ← contract
+  f ← consumerFlagsGiven (consumerFlagsFrom (c .flags))
+  done (record { psu = c .port; «consumer_power_capability» = record { capability = c .power; flags = f } })
 
 unfoldable pub unconstrained : Parser UnconstrainedState
 unconstrained = do
@@ -84,11 +94,9 @@ providerDisconnected = do
 -- PKT-13: port, mV, mA, flags
 unfoldable pub providerConnected : Parser Event
 providerConnected = do
-  port ← field 15
-  c ← capability
-  b ← byte
-  f ← providerFlagsGiven (providerFlagsFrom b)
-  done (Event.ProviderConnected port (record { capability = c; flags = f }))
+  c ← contract
+  f ← providerFlagsGiven (providerFlagsFrom (c .flags))
+  done (Event.ProviderConnected (c .port) (record { capability = c .power; flags = f }))
 
 -- PKT-14: unconstrained, available
 unfoldable pub unconstrainedChanged : Parser Event

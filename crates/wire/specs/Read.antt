@@ -11,9 +11,10 @@ use Rattle.interface_display.specs.declared.notices.Notices.{Notices}
 use Rattle.interface_display.specs.declared.packet.Packet.{Packet}
 use Rattle.interface_display.specs.declared.providers.Providers.{Providers}
 use Rattle.wire.specs.Parser.{Parsed, refused, parsed}
-use Rattle.wire.specs.Packet.{packet}
+use Rattle.wire.specs.Packet.{Contract, packet}
 use Rattle.wire.specs.declared.packet.ReadByte.{ReadByte}
 use Rattle.wire.specs.declared.packet.ReadCapability.{ReadCapability}
+use Rattle.wire.specs.declared.packet.ReadContract.{ReadContract}
 use Rattle.wire.specs.declared.packet.ReadConsumer.{ReadConsumer}
 use Rattle.wire.specs.declared.packet.ReadOptionConsumer.{ReadOptionConsumer}
 use Rattle.wire.specs.declared.packet.ReadUnconstrained.{ReadUnconstrained}
@@ -37,6 +38,14 @@ capabilityRest s (ReadCapability.Capability c used) = parsed c (drop used s)
 abbrev pub capabilityUsed : ReadCapability → ℕ
 capabilityUsed (ReadCapability.Refused n) = 0
 capabilityUsed (ReadCapability.Capability c used) = used
+
+abbrev pub contractRest : List ℕ → ReadContract → Parsed Contract
+contractRest s (ReadContract.Refused n) = refused n
+contractRest s (ReadContract.Contract port c b used) = parsed (record { port = port; power = c; flags = b }) (drop used s)
+
+abbrev pub contractUsed : ReadContract → ℕ
+contractUsed (ReadContract.Refused n) = 0
+contractUsed (ReadContract.Contract port c b used) = used
 
 abbrev pub consumerRest : List ℕ → ReadConsumer → Parsed AvailableConsumer
 consumerRest s (ReadConsumer.Refused n) = refused n

@@ -26,8 +26,8 @@ ghost use Prim.Native.Nat.{_≤_};
 ghost use lib.ListN.{length};
 ghost use Rattle.interface_display.specs.Notices.{empty};
 ghost use Rattle.wire.specs.Parser.{then, end, field};
-ghost use Rattle.wire.specs.Packet.{capability, consumer, consumerGiven, unconstrained, noticeOf, notice, notices, ports, event, eventAfter, eventNotices, picture, pictureAfter, consumerDisconnected, consumerConnected, providerDisconnected, providerConnected, unconstrainedChanged};
-ghost use Rattle.wire.specs.Read.{byteRest, byteUsed, capabilityRest, capabilityUsed, consumerRest, consumerUsed, optionConsumerRest, optionConsumerUsed, unconstrainedRest, unconstrainedUsed, noticeRest, noticeUsed, noticesRead, portsRead, packetRead, readPacket};
+ghost use Rattle.wire.specs.Packet.{capability, contract, consumer, consumerGiven, unconstrained, noticeOf, notice, notices, ports, event, eventAfter, eventNotices, picture, pictureAfter, consumerDisconnected, consumerConnected, providerDisconnected, providerConnected, unconstrainedChanged};
+ghost use Rattle.wire.specs.Read.{byteRest, byteUsed, capabilityRest, capabilityUsed, contractRest, contractUsed, consumerRest, consumerUsed, optionConsumerRest, optionConsumerUsed, unconstrainedRest, unconstrainedUsed, noticeRest, noticeUsed, noticesRead, portsRead, packetRead, readPacket};
 
 // What reading a packet finds.
 pub enum ReadPacket {
@@ -45,6 +45,16 @@ enum ReadCapability {
     Refused(u8),
     Capability {
         capability: PowerCapability,
+        used: usize,
+    },
+}
+
+enum ReadContract {
+    Refused(u8),
+    Contract {
+        port: u8,
+        capability: PowerCapability,
+        flags: u8,
         used: usize,
     },
 }
@@ -130,45 +140,64 @@ fn read_capability(s: &[u8]) -> ReadCapability
     }
 }
 
-// A consumer: port, mV, mA, flags.
-fn read_consumer(s: &[u8]) -> ReadConsumer
-    ensures { λ r. ⌜ (consumerRest (now (s .entry)) r ≡ consumer (now (s .entry))) × (consumerUsed r ≤ length (now (s .entry))) ⌝ }
+// A contract: port, mV, mA, and the byte of its flags.
+fn read_contract(s: &[u8]) -> ReadContract
+    ensures { λ r. ⌜ (contractRest (now (s .entry)) r ≡ contract (now (s .entry))) × (contractUsed r ≤ length (now (s .entry))) ⌝ }
 {
     match read_field(s, 15) {
         ReadByte::Refused(n) => {
-            return ReadConsumer::Refused(n);
+            return ReadContract::Refused(n);
         }
         ReadByte::Byte(port) => {
             let rest = &s[1..];
             match read_capability(rest) {
                 ReadCapability::Refused(n) => {
-                    return ReadConsumer::Refused(n);
+                    return ReadContract::Refused(n);
                 }
                 ReadCapability::Capability { capability, used } => {
                     let last = &rest[used..];
                     if last.len() == 0 {
-                        return ReadConsumer::Refused(30);
+                        return ReadContract::Refused(30);
                     }
-                    match ConsumerFlags::from_byte(last[0]) {
-                        OptionConsumerFlags::None => {
-                            return ReadConsumer::Refused(32);
-                        }
-                        OptionConsumerFlags::Some(flags) => {
-                            return ReadConsumer::Consumer {
-                                consumer: AvailableConsumer {
-                                    psu: port,
-                                    consumer_power_capability: ConsumerPowerCapability {
-                                        capability,
-                                        flags,
-                                    },
-                                },
-                                used: used + 2,
-                            };
-                        }
-                    }
+                    return ReadContract::Contract {
+                        port,
+                        capability,
+                        flags: last[0],
+                        used: used + 2,
+                    };
                 }
             }
         }
+    }
+}
+
+// A consumer: a contract with a consumer's flags.
+fn read_consumer(s: &[u8]) -> ReadConsumer
+    ensures { λ r. ⌜ (consumerRest (now (s .entry)) r ≡ consumer (now (s .entry))) × (consumerUsed r ≤ length (now (s .entry))) ⌝ }
+{
+    match read_contract(s) {
+        ReadContract::Refused(n) => {
+            return ReadConsumer::Refused(n);
+        }
+        ReadContract::Contract {
+            port,
+            capability,
+            flags: b,
+            used,
+        } => match ConsumerFlags::from_byte(b) {
+            OptionConsumerFlags::None => {
+                return ReadConsumer::Refused(32);
+            }
+            OptionConsumerFlags::Some(flags) => {
+                return ReadConsumer::Consumer {
+                    consumer: AvailableConsumer {
+                        psu: port,
+                        consumer_power_capability: ConsumerPowerCapability { capability, flags },
+                    },
+                    used,
+                };
+            }
+        },
     }
 }
 
@@ -260,42 +289,31 @@ fn read_provider_disconnected(s: &[u8]) -> ReadNotice
     }
 }
 
-// Notice 4 after its kind: port, mV, mA, flags.
+// Notice 4 after its kind: a contract with a provider's flags.
 fn read_provider_connected(s: &[u8]) -> ReadNotice
     ensures { λ r. ⌜ (noticeRest (now (s .entry)) r ≡ providerConnected (now (s .entry))) × (noticeUsed r ≤ length (now (s .entry))) ⌝ }
 {
-    match read_field(s, 15) {
-        ReadByte::Refused(n) => {
+    match read_contract(s) {
+        ReadContract::Refused(n) => {
             return ReadNotice::Refused(n);
         }
-        ReadByte::Byte(port) => {
-            let rest = &s[1..];
-            match read_capability(rest) {
-                ReadCapability::Refused(n) => {
-                    return ReadNotice::Refused(n);
-                }
-                ReadCapability::Capability { capability, used } => {
-                    let last = &rest[used..];
-                    if last.len() == 0 {
-                        return ReadNotice::Refused(30);
-                    }
-                    match ProviderFlags::from_byte(last[0]) {
-                        OptionProviderFlags::None => {
-                            return ReadNotice::Refused(32);
-                        }
-                        OptionProviderFlags::Some(flags) => {
-                            return ReadNotice::Notice {
-                                notice: Event::ProviderConnected(
-                                    port,
-                                    ProviderPowerCapability { capability, flags },
-                                ),
-                                used: used + 2,
-                            };
-                        }
-                    }
-                }
+        ReadContract::Contract {
+            port,
+            capability,
+            flags: b,
+            used,
+        } => match ProviderFlags::from_byte(b) {
+            OptionProviderFlags::None => {
+                return ReadNotice::Refused(32);
             }
-        }
+            OptionProviderFlags::Some(flags) => {
+                let provided = ProviderPowerCapability { capability, flags };
+                return ReadNotice::Notice {
+                    notice: Event::ProviderConnected(port, provided),
+                    used,
+                };
+            }
+        },
     }
 }
 

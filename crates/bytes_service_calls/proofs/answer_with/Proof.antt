@@ -1,4 +1,4 @@
--- What the calls ensure, by the cases on the way, is the definition.
+-- Refused rows give 22 and leave the image as it was.
 use mathlib.Core.Path.{refl}
 use borrow.Author.Needs.{needs}
 use Rattle.bytes_service_calls.proofs.answer_with.Statement.{statement}

@@ -1,4 +1,4 @@
--- What the calls ensure, by the cases on the way, is the definition.
+-- Refused rows give 22 before the event is opened.
 use mathlib.Core.Path.{refl}
 use borrow.Author.Needs.{needs}
 use Rattle.bytes_service_calls.proofs.open_with.Statement.{statement}

@@ -1,4 +1,4 @@
--- What the calls ensure, by the cases on the way, is the definition.
+-- A refused image gives 21; another says where its phase stands.
 use borrow.Author.Needs.{needs}
 use Rattle.bytes_service_calls.proofs.order_on.Statement.{statement}
 use Rattle.bytes_service_calls.proofs.order_on.Tie as tie

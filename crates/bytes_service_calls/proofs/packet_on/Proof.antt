@@ -1,4 +1,4 @@
--- What the calls ensure, by the cases on the way, is the definition.
+-- A refused image gives 21 and leaves the buffer as it was.
 use mathlib.Core.Path.{refl}
 use borrow.Author.Needs.{needs}
 use Rattle.bytes_service_calls.proofs.packet_on.Statement.{statement}

@@ -1,4 +1,3 @@
--- What the calls ensure, by the cases on the way, is the definition.
 use borrow.Author.Needs.{needs}
 use Rattle.bytes_service_calls.proofs.read_order.Statement.{statement}
 use Rattle.bytes_service_calls.proofs.read_order.Tie as tie

@@ -1,4 +1,4 @@
--- What the calls ensure, by the cases on the way, is the definition.
+-- With no order the number is that of the close.
 use borrow.Author.Needs.{needs}
 use Rattle.bytes_service_calls.proofs.stand_at.Statement.{statement}
 use Rattle.bytes_service_calls.proofs.stand_at.Tie as tie

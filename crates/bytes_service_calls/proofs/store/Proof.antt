@@ -1,4 +1,4 @@
--- What the calls ensure, by the cases on the way, is the definition.
+-- A step that is not refused writes the image first; a refusal leaves it.
 use mathlib.Core.Path.{refl}
 use borrow.Author.Needs.{needs}
 use Rattle.bytes_service_calls.proofs.store.Statement.{statement}

@@ -1,4 +1,4 @@
--- What the calls ensure, by the cases on the way, is the definition.
+-- A refused start, and bytes of another length, are left as they were.
 use mathlib.Core.Path.{refl}
 use borrow.Author.Needs.{needs}
 use borrow.Author.Tests.{eq-eqb, ne-eqb}

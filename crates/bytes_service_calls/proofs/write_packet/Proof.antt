@@ -1,4 +1,3 @@
--- What the calls ensure, by the cases on the way, is the definition.
 use mathlib.Core.Path.{refl}
 use borrow.Author.Needs.{needs}
 use Rattle.bytes_service_calls.proofs.write_packet.Statement.{statement}

@@ -1,4 +1,4 @@
--- What the calls ensure, by the cases on the way, is the definition.
+-- A refusal and a length each have their own number.
 use borrow.Author.Needs.{needs}
 use Rattle.bytes_service_calls.proofs.written.Statement.{statement}
 use Rattle.bytes_service_calls.proofs.written.Tie as tie

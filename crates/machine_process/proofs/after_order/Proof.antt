@@ -1,4 +1,4 @@
--- What the calls ensure, by the tests on the way, is the definition.
+-- By the phase: what follows its order.
 use borrow.Author.Needs.{needs}
 use Rattle.machine_process.proofs.after_order.Statement.{statement}
 use Rattle.machine_process.proofs.after_order.Tie as tie

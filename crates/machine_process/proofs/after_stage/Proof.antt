@@ -1,4 +1,4 @@
--- What the calls ensure, by the tests on the way, is the definition.
+-- Each stage leads to the next; a charger attached leads to the next charger.
 use borrow.Author.Needs.{needs}
 use Rattle.machine_process.proofs.after_stage.Statement.{statement}
 use Rattle.machine_process.proofs.after_stage.Tie as tie

@@ -1,4 +1,4 @@
--- What the calls ensure, by the tests on the way, is the definition.
+-- An error closes the event; else the phase goes on.
 use mathlib.Core.Path.{sym, _∙_}
 use borrow.Author.Needs.{needs}
 use Rattle.machine_process.proofs.answered.Statement.{statement}

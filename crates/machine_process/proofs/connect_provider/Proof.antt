@@ -1,4 +1,4 @@
--- What the calls ensure, by the tests on the way, is the definition.
+-- No request closes the event.
 use borrow.Author.Needs.{needs}
 use Rattle.machine_process.proofs.connect_provider.Statement.{statement}
 use Rattle.machine_process.proofs.connect_provider.Tie as tie

@@ -1,4 +1,4 @@
--- What the calls ensure, by the tests on the way, is the definition.
+-- The power state is set either way; the check decides between the order and its error.
 use mathlib.Core.Path.{sym, _∙_}
 use borrow.Author.Needs.{needs}
 use Rattle.machine_process.proofs.grant.Statement.{statement}

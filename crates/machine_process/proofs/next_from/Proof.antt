@@ -1,4 +1,4 @@
--- What the calls ensure, by the tests on the way, is the definition.
+-- After the PSU comes charger 0.
 use borrow.Author.Needs.{needs}
 use Rattle.machine_process.proofs.next_from.Statement.{statement}
 use Rattle.machine_process.proofs.next_from.Tie as tie

@@ -1,4 +1,4 @@
--- What the calls ensure, by the tests on the way, is the definition.
+-- Each kind of event has its own step.
 use borrow.Author.Needs.{needs}
 use Rattle.machine_process.proofs.process_psu_event.Statement.{statement}
 use Rattle.machine_process.proofs.process_psu_event.Tie as tie

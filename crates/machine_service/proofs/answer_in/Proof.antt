@@ -1,4 +1,4 @@
--- What the calls ensure, by the tests on the way, is the definition.
+-- Only a closed phase has an answer; of the others it is Ok.
 use borrow.Author.Needs.{needs}
 use Rattle.machine_service.proofs.answer_in.Statement.{statement}
 use Rattle.machine_service.proofs.answer_in.Tie as tie

@@ -1,4 +1,4 @@
--- What the calls ensure, by the tests on the way, is the definition.
+-- Up to 6 the detail is a byte.
 use lib.ListN.{List·getD-eq-default}
 use Rattle.power_policy_interface.specs.Capability.{reasons}
 use Rattle.power_policy_interface.specs.declared.capability.OptionDisconnectFlags.{OptionDisconnectFlags}

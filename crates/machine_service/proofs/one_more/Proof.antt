@@ -1,4 +1,4 @@
--- What the calls ensure, by the tests on the way, is the definition.
+-- Below 255 one more is a byte.
 use borrow.Author.Tests.{le-ltb, lt-ltb}
 use native.Mathlib.Numerals.{add-one}
 use borrow.Author.Needs.{needs}

@@ -1,4 +1,4 @@
--- What the calls ensure, by the tests on the way, is the definition.
+-- No order gives a wait.
 use borrow.Author.Needs.{needs}
 use Rattle.machine_service.proofs.order_in.Statement.{statement}
 use Rattle.machine_service.proofs.order_in.Tie as tie

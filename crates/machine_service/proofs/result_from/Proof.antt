@@ -1,4 +1,4 @@
--- What the calls ensure, by the tests on the way, is the definition.
+-- Up to 10 the answer is a byte.
 use lib.ListN.{List·getD-eq-default}
 use Rattle.power_policy_interface.specs.Psu.{answers}
 use Rattle.power_policy_interface.specs.declared.psu.OptionResult.{OptionResult}

@@ -1,4 +1,4 @@
--- What the calls ensure, by the tests on the way, is the definition.
+-- Past the tests both counts are bytes.
 use borrow.Author.Tests.{le-ltb, lt-ltb}
 use borrow.Author.Needs.{needs}
 use Rattle.machine_service.proofs.start.Statement.{statement}

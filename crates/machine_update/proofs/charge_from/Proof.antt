@@ -1,4 +1,4 @@
--- What the calls ensure, by the tests on the way, is the definition.
+-- Past the last charger the consumer is told and the update ends.
 use borrow.Author.Tests.{le-ltb, lt-ltb}
 use borrow.Author.Needs.{needs}
 use Rattle.machine_update.proofs.charge_from.Statement.{statement}

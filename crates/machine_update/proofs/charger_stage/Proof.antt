@@ -1,4 +1,4 @@
--- What the calls ensure, by the tests on the way, is the definition.
+-- Only an unpowered charger is asked first.
 use borrow.Author.Needs.{needs}
 use Rattle.machine_update.proofs.charger_stage.Statement.{statement}
 use Rattle.machine_update.proofs.charger_stage.Tie as tie

@@ -1,4 +1,4 @@
--- What the calls ensure, by the tests on the way, is the definition.
+-- With none held the new one is connected, the same one is left, another is disconnected first.
 use mathlib.Core.Path.{sym, _∙_}
 use borrow.Author.Needs.{needs}
 use Rattle.machine_update.proofs.connect_new_consumer.Statement.{statement}

@@ -1,4 +1,4 @@
--- What the calls ensure, by the tests on the way, is the definition.
+-- With no consumer the flag is false.
 use borrow.Author.Needs.{needs}
 use Rattle.machine_update.proofs.consumer_flag.Statement.{statement}
 use Rattle.machine_update.proofs.consumer_flag.Tie as tie

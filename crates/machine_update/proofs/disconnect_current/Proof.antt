@@ -1,4 +1,4 @@
--- What the calls ensure, by the tests on the way, is the definition.
+-- A PSU that is not connected as consumer is passed over.
 use mathlib.Core.Path.{sym, _∙_}
 use borrow.Author.Needs.{needs}
 use Rattle.machine_update.proofs.disconnect_current.Statement.{statement}

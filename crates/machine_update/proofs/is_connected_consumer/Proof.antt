@@ -1,4 +1,4 @@
--- What the calls ensure, by the tests on the way, is the definition.
+-- True of one state of the four.
 use borrow.Author.Needs.{needs}
 use Rattle.machine_update.proofs.is_connected_consumer.Statement.{statement}
 use Rattle.machine_update.proofs.is_connected_consumer.Tie as tie

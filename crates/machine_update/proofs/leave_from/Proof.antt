@@ -1,4 +1,4 @@
--- What the calls ensure, by the tests on the way, is the definition.
+-- The next powered charger is below the count, or there is none left.
 use borrow.Author.Tests.{le-ltb, lt-ltb}
 use Prim.Native.Nat.{_<_, _≤_, _-_}
 use Rattle.machine_state.specs.Memory.{nextPowered}

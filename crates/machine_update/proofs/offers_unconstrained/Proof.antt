@@ -1,4 +1,4 @@
--- What the calls ensure, by the tests on the way, is the definition.
+-- With no capability the flag is false.
 use borrow.Author.Needs.{needs}
 use Rattle.machine_update.proofs.offers_unconstrained.Statement.{statement}
 use Rattle.machine_update.proofs.offers_unconstrained.Tie as tie

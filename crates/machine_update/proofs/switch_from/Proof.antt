@@ -1,4 +1,4 @@
--- What the calls ensure, by the tests on the way, is the definition.
+-- The next powered charger is below the count; past it the new consumer is connected.
 use borrow.Author.Tests.{le-ltb, lt-ltb}
 use Prim.Native.Nat.{_<_, _≤_, _-_}
 use Rattle.machine_state.specs.Memory.{nextPowered}

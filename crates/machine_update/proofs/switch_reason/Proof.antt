@@ -1,4 +1,4 @@
--- What the calls ensure, by the tests on the way, is the definition.
+-- The same port comes first, then the reason given, then Switching.
 use borrow.Author.Tests.{eq-eqb, ne-eqb}
 use borrow.Author.Needs.{needs}
 use Rattle.machine_update.proofs.switch_reason.Statement.{statement}

@@ -1,4 +1,4 @@
--- What the calls ensure, by the tests on the way, is the definition.
+-- A best consumer is connected; with none the one held leaves, if there is one.
 use mathlib.Core.Path.{sym, _∙_}
 use borrow.Author.Needs.{needs}
 use Rattle.machine_update.proofs.update_current_consumer.Statement.{statement}

@@ -1,4 +1,4 @@
--- What the calls ensure, by the cases on the way, is the definition.
+-- The configuration is the one that the seven numbers are read as.
 use mathlib.Core.Path.{refl}
 use borrow.Author.Needs.{needs}
 use Rattle.power_policy.proofs.power_policy_start.Statement.{statement}

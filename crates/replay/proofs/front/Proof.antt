@@ -1,4 +1,4 @@
--- The part is as long as what is lent.
+-- The part has seven bytes, and so many are there.
 use mathlib.Core.Path.{sym}
 use Prim.Native.Nat.{_≤_}
 use lib.ListN.{length}

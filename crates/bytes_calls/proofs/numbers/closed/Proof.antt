@@ -1,4 +1,4 @@
--- What the calls ensure, by the cases on the way, is the definition.
+-- An error gives its byte and its mismatch; Ok has zeros there.
 use borrow.Author.Needs.{needs}
 use Rattle.bytes_calls.proofs.numbers.closed.Statement.{statement}
 use Rattle.bytes_calls.proofs.numbers.closed.Tie as tie

@@ -1,4 +1,4 @@
--- What the calls ensure, by the cases on the way, is the definition.
+-- No consumer is all zeros after the kind; one gives port, flags, mV and mA.
 use borrow.Author.Needs.{needs}
 use Rattle.bytes_calls.proofs.numbers.consumer.Statement.{statement}
 use Rattle.bytes_calls.proofs.numbers.consumer.Tie as tie

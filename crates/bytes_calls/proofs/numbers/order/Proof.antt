@@ -1,4 +1,4 @@
--- What the calls ensure, by the cases on the way, is the definition.
+-- Each order has its number; one that connects or attaches also its capability.
 use borrow.Author.Needs.{needs}
 use Rattle.bytes_calls.proofs.numbers.order.Statement.{statement}
 use Rattle.bytes_calls.proofs.numbers.order.Tie as tie

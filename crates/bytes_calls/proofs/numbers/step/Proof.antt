@@ -1,4 +1,4 @@
--- What the calls ensure, by the cases on the way, is the definition.
+-- An order, a close and a refusal each have their own form.
 use borrow.Author.Needs.{needs}
 use Rattle.bytes_calls.proofs.numbers.step.Statement.{statement}
 use Rattle.bytes_calls.proofs.numbers.step.Tie as tie

@@ -1,4 +1,4 @@
--- What the calls ensure, by the cases on the way, is the definition.
+-- At most 16 ports are tracked, so that count and both halves of the mask are bytes.
 use borrow.Author.Needs.{needs}
 use Rattle.interface_display.proofs.Count.{ones-le}
 use native.Mathlib.Nat.{lt-of-le-of-lt}

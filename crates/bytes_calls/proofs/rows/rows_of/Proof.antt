@@ -1,4 +1,4 @@
--- What the calls ensure, by the cases on the way, is the definition.
+-- Both rows are read only if each is.
 use Rattle.bytes_calls.proofs.rows.rows_of.Statement.{statement}
 use Rattle.bytes_calls.proofs.rows.rows_of.Tie as tie
 

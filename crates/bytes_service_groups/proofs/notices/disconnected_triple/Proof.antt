@@ -1,4 +1,4 @@
--- By cases on the notice.
+-- No notice is three zeros.
 use borrow.Author.Needs.{needs}
 use Rattle.bytes_service_groups.proofs.notices.disconnected_triple.Statement.{statement}
 use Rattle.bytes_service_groups.proofs.notices.disconnected_triple.Tie as tie

@@ -1,4 +1,4 @@
--- By cases on the notice.
+-- Each of the three has its tag; two of them the port.
 use borrow.Author.Needs.{needs}
 use Rattle.bytes_service_groups.proofs.notices.provider_tagged.Statement.{statement}
 use Rattle.bytes_service_groups.proofs.notices.provider_tagged.Tie as tie

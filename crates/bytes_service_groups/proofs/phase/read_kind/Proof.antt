@@ -1,4 +1,4 @@
--- Each arm is its entry of the table; a number in no arm is past the table.
+-- A kind above 3 is past the table.
 use mathlib.Core.Path.{sym}
 use lib.ListN.{List·getD-eq-default}
 use Rattle.power_policy_interface.proofs.Past.{past}

@@ -1,4 +1,4 @@
--- By cases on the capability.
+-- The flag byte decides.
 use mathlib.Core.Path.{sym, _∙_}
 use borrow.Author.Needs.{needs}
 use Rattle.bytes_service_groups.proofs.phase.read_new.Statement.{statement}

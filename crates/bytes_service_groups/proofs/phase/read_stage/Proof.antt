@@ -1,4 +1,4 @@
--- Each arm is its entry of the table; a number in no arm is past the table.
+-- The stages without a charger ask for 0; a stage above 4 is past the table.
 use mathlib.Core.Path.{sym}
 use lib.ListN.{List·getD-eq-default}
 use borrow.Author.Tests.{eq-eqb, ne-eqb}

@@ -1,4 +1,4 @@
--- By cases on the phase.
+-- Each phase has its number and, in the same places, what it holds.
 use borrow.Author.Needs.{needs}
 use Rattle.bytes_service_groups.proofs.phase.standing_of.Statement.{statement}
 use Rattle.bytes_service_groups.proofs.phase.standing_of.Tie as tie

@@ -1,4 +1,4 @@
--- The first test that fails decides.
+-- The five tests of the definition, in its order.
 use mathlib.Core.Path.{sym, _∙_}
 use borrow.Author.Tests.{not-true, not-false}
 use borrow.Author.Needs.{needs}

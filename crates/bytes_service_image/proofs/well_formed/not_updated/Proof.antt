@@ -1,4 +1,4 @@
--- The first test that fails decides.
+-- A first test that fails makes the conjunction false.
 use mathlib.Core.Path.{sym, _∙_}
 use borrow.Author.Tests.{not-true, not-false}
 use borrow.Author.Needs.{needs}

@@ -1,4 +1,4 @@
--- The first test that fails decides.
+-- The four notices are tested in their order.
 use mathlib.Core.Path.{sym, _∙_}
 use borrow.Author.Tests.{not-true, not-false}
 use borrow.Author.Needs.{needs}

@@ -1,4 +1,4 @@
--- By cases on the phase.
+-- Only the stages of a new consumer have a bound of their own.
 use borrow.Author.Needs.{needs}
 use Rattle.bytes_service_image.proofs.well_formed.orders_least.Statement.{statement}
 use Rattle.bytes_service_image.proofs.well_formed.orders_least.Tie as tie

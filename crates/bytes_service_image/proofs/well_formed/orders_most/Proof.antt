@@ -1,4 +1,4 @@
--- By cases on the phase.
+-- Three and four times a byte fit 16 bits.
 use borrow.Author.Needs.{needs}
 use Rattle.bytes_service_image.proofs.well_formed.orders_most.Statement.{statement}
 use Rattle.bytes_service_image.proofs.well_formed.orders_most.Tie as tie

@@ -1,4 +1,4 @@
--- By cases on the notice.
+-- Both notices that name a port ask that it is registered.
 use borrow.Author.Needs.{needs}
 use Rattle.bytes_service_image.proofs.well_formed.provider_fits.Statement.{statement}
 use Rattle.bytes_service_image.proofs.well_formed.provider_fits.Tie as tie

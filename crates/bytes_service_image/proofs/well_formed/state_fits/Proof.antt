@@ -1,4 +1,4 @@
--- The first test that fails decides.
+-- The consumer is tested before the figures, and those before the tracked ports.
 use mathlib.Core.Path.{sym, _∙_}
 use borrow.Author.Tests.{le-leb, lt-leb, not-true, not-false}
 use borrow.Author.Needs.{needs}

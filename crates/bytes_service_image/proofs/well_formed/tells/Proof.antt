@@ -1,4 +1,4 @@
--- By cases on the phase.
+-- Each phase asks for what cannot have been told yet.
 use borrow.Author.Needs.{needs}
 use Rattle.bytes_service_image.proofs.well_formed.tells.Statement.{statement}
 use Rattle.bytes_service_image.proofs.well_formed.tells.Tie as tie

@@ -1,4 +1,4 @@
--- By cases on the consumer.
+-- With no consumer there is no port.
 use mathlib.Core.Path.{sym, _∙_}
 use borrow.Author.Needs.{needs}
 use Rattle.desk_follower.proofs.Shown.port.Statement.{statement}

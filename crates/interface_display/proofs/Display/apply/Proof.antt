@@ -1,4 +1,4 @@
--- By cases on the notice.
+-- Each notice sets its one field.
 use borrow.Author.Needs.{needs}
 use Rattle.interface_display.proofs.Display.apply.Statement.{statement}
 use Rattle.interface_display.proofs.Display.apply.Tie as tie

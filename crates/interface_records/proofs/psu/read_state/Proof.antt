@@ -1,4 +1,4 @@
--- Each arm is its entry of the table; a number in no arm is past the table.
+-- States 0 and 1 ask for zeros, 2 and 3 for their contract; any other is past the table.
 use Rattle.interface_records.specs.Psu.{stateCases}
 use Rattle.interface_records.specs.declared.psu.ReadPsuState.{ReadPsuState}
 use mathlib.Core.Path.{sym, _∙_}

@@ -1,4 +1,4 @@
--- By cases on the state.
+-- Each state has its number; two of them a contract.
 use borrow.Author.Needs.{needs}
 use Rattle.interface_records.proofs.psu.state_group.Statement.{statement}
 use Rattle.interface_records.proofs.psu.state_group.Tie as tie

@@ -1,4 +1,4 @@
--- What the calls ensure, by the tests on the way, is the definition.
+-- Open is: its phase has an order.
 use borrow.Author.Needs.{needs}
 use Rattle.machine_service.proofs.Service.is_open.Statement.{statement}
 use Rattle.machine_service.proofs.Service.is_open.Tie as tie

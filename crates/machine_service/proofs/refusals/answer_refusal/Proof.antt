@@ -1,4 +1,4 @@
--- What the calls ensure, by the tests on the way, is the definition.
+-- 24 is tested before 26.
 use mathlib.Core.Path.{sym, _∙_}
 use borrow.Author.Needs.{needs}
 use Rattle.machine_service.proofs.refusals.answer_refusal.Statement.{statement}

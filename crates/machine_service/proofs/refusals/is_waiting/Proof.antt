@@ -1,4 +1,4 @@
--- What the calls ensure, by the tests on the way, is the definition.
+-- There is an order or none.
 use borrow.Author.Needs.{needs}
 use Rattle.machine_service.proofs.refusals.is_waiting.Statement.{statement}
 use Rattle.machine_service.proofs.refusals.is_waiting.Tie as tie

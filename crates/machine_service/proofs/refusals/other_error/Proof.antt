@@ -1,4 +1,4 @@
--- What the calls ensure, by the tests on the way, is the definition.
+-- A port's order fails with any error, a charger's with 9 alone, a wait with none.
 use borrow.Author.Needs.{needs}
 use Rattle.machine_service.proofs.refusals.other_error.Statement.{statement}
 use Rattle.machine_service.proofs.refusals.other_error.Tie as tie

@@ -1,4 +1,4 @@
--- What the calls ensure, by the tests on the way, is the definition.
+-- Only a closed phase has an answer; of the others it is 0.
 use borrow.Author.Needs.{needs}
 use Rattle.machine_service.proofs.send.answer_byte.Statement.{statement}
 use Rattle.machine_service.proofs.send.answer_byte.Tie as tie

@@ -1,4 +1,4 @@
--- What the calls ensure, by the tests on the way, is the definition.
+-- The four are pushed in the definition's order.
 use borrow.Author.Needs.{needs}
 use Rattle.machine_service.proofs.send.notices_of.Statement.{statement}
 use Rattle.machine_service.proofs.send.notices_of.Tie as tie

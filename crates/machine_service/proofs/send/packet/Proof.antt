@@ -1,4 +1,4 @@
--- What the calls ensure, by the tests on the way, is the definition.
+-- 25 is tested before 27.
 use mathlib.Core.Path.{sym, _∙_}
 use borrow.Author.Tests.{eq-eqb, ne-eqb}
 use borrow.Author.Needs.{needs}

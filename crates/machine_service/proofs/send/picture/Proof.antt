@@ -1,4 +1,4 @@
--- What the calls ensure, by the tests on the way, is the definition.
+-- 25 is tested first.
 use mathlib.Core.Path.{sym, _∙_}
 use borrow.Author.Needs.{needs}
 use Rattle.machine_service.proofs.send.picture.Statement.{statement}

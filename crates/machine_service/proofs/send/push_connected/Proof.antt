@@ -1,4 +1,4 @@
--- What the calls ensure, by the tests on the way, is the definition.
+-- No notice leaves the list as it was.
 use borrow.Author.Needs.{needs}
 use Rattle.machine_service.proofs.send.push_connected.Statement.{statement}
 use Rattle.machine_service.proofs.send.push_connected.Tie as tie

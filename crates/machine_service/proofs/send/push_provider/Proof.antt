@@ -1,4 +1,4 @@
--- What the calls ensure, by the tests on the way, is the definition.
+-- No notice leaves the list; each of the other two is pushed as its own event.
 use borrow.Author.Needs.{needs}
 use Rattle.machine_service.proofs.send.push_provider.Statement.{statement}
 use Rattle.machine_service.proofs.send.push_provider.Tie as tie

@@ -1,4 +1,4 @@
--- What the calls ensure, by the tests on the way, is the definition.
+-- A port's error stays, a charger's is Charger, and a wait has none.
 use borrow.Author.Needs.{needs}
 use Rattle.machine_state.proofs.phase.outcome.Statement.{statement}
 use Rattle.machine_state.proofs.phase.outcome.Tie as tie

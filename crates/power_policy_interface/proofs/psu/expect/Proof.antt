@@ -1,4 +1,4 @@
--- The test is the definition's.
+-- The bit of the actual kind decides.
 use mathlib.Core.Path.{sym, _∙_}
 use borrow.Author.Needs.{needs}
 use Rattle.power_policy_interface.proofs.psu.expect.Statement.{statement}

@@ -1,4 +1,4 @@
--- By cases on the consumer.
+-- With no consumer no port is its.
 use borrow.Author.Needs.{needs}
 use Rattle.power_policy_service.proofs.consumer.is_current.Statement.{statement}
 use Rattle.power_policy_service.proofs.consumer.is_current.Tie as tie

@@ -1,4 +1,4 @@
--- By cases on the capability.
+-- No contract counts for 0.
 use borrow.Author.Needs.{needs}
 use Rattle.power_policy_service.proofs.provider.milliwatts.Statement.{statement}
 use Rattle.power_policy_service.proofs.provider.milliwatts.Tie as tie

@@ -1,4 +1,4 @@
--- The test is the definition's.
+-- The requester counts with its request.
 use borrow.Author.Tests.{le-leb, lt-leb, eq-eqb, ne-eqb, lt-ltb, le-ltb}
 use borrow.Author.Needs.{needs}
 use Rattle.power_policy_service.proofs.provider.target_mw.Statement.{statement}

@@ -1,4 +1,4 @@
--- The test is the definition's.
+-- Within the limit the value fits 32 bits.
 use borrow.Author.Tests.{le-leb, lt-leb}
 use borrow.Author.Needs.{needs}
 use Rattle.wire.proofs.number.ended.Statement.{statement}

@@ -1,4 +1,4 @@
--- The tests are the definition's.
+-- 30 is tested before 32.
 use native.Mathlib.Omega.{arith}
 use denote.Ref.{now}
 use borrow.Author.Tests.{le-leb, lt-leb}

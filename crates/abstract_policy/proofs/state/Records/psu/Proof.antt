@@ -1,4 +1,4 @@
--- The test is the definition's.
+-- Below 16 the port is an index; past it the definition has the empty record.
 use borrow.Author.Tests.{le-leb, lt-leb, eq-eqb, ne-eqb, lt-ltb, le-ltb, not-true, not-false}
 use borrow.Author.Needs.{needs}
 use Rattle.abstract_policy.proofs.state.Records.psu.Statement.{statement}

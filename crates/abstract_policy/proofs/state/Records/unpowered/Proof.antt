@@ -1,4 +1,4 @@
--- The test is the definition's.
+-- Below 8 the charger is an index; past it the definition says true.
 use borrow.Author.Tests.{le-leb, lt-leb, eq-eqb, ne-eqb, lt-ltb, le-ltb, not-true, not-false}
 use borrow.Author.Needs.{needs}
 use Rattle.abstract_policy.proofs.state.Records.unpowered.Statement.{statement}

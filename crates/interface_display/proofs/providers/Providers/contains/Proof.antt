@@ -1,4 +1,4 @@
--- The test is the definition's.
+-- The shifted bit is the one that the definition tests; a port from 16 on is not tracked.
 use borrow.Author.Tests.{lt-ltb, le-ltb}
 use Rattle.interface_display.proofs.Count.{tested}
 use borrow.Author.Needs.{needs}

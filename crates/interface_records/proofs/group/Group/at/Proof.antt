@@ -1,4 +1,4 @@
--- Each byte is what `byte` ensures.
+-- The six bytes of the group, one call each.
 use borrow.Author.Needs.{needs}
 use Rattle.interface_records.proofs.group.Group.at.Statement.{statement}
 use Rattle.interface_records.proofs.group.Group.at.Tie as tie

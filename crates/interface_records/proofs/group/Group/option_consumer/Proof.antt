@@ -1,4 +1,4 @@
--- Each arm is its entry of the table; a number in no arm is past the table.
+-- Presence 0 asks for zeros, 1 for flags that are known; any other is past the table.
 use Rattle.interface_records.specs.Group.{consumerCases}
 use Rattle.interface_records.specs.declared.group.ReadConsumer.{ReadConsumer}
 use mathlib.Core.Path.{sym, _∙_}

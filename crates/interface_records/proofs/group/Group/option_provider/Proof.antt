@@ -1,4 +1,4 @@
--- Each arm is its entry of the table; a number in no arm is past the table.
+-- As for a consumer: presence 0 asks for zeros, 1 for flags that are known.
 use Rattle.interface_records.specs.Group.{providerCases}
 use Rattle.interface_records.specs.declared.group.ReadProvider.{ReadProvider}
 use mathlib.Core.Path.{sym, _∙_}

@@ -1,4 +1,4 @@
--- What the calls ensure, by the tests on the way, is the definition.
+-- A PSU is disconnected, a charger detached.
 use borrow.Author.Needs.{needs}
 use Rattle.machine_state.proofs.phase.Leaver.order.Statement.{statement}
 use Rattle.machine_state.proofs.phase.Leaver.order.Tie as tie

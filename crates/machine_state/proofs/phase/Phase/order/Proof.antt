@@ -1,4 +1,4 @@
--- What the calls ensure, by the tests on the way, is the definition.
+-- Only a closed phase has no order.
 use borrow.Author.Needs.{needs}
 use Rattle.machine_state.proofs.phase.Phase.order.Statement.{statement}
 use Rattle.machine_state.proofs.phase.Phase.order.Tie as tie

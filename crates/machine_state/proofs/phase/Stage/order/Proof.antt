@@ -1,4 +1,4 @@
--- What the calls ensure, by the tests on the way, is the definition.
+-- Each stage has its one order.
 use borrow.Author.Needs.{needs}
 use Rattle.machine_state.proofs.phase.Stage.order.Statement.{statement}
 use Rattle.machine_state.proofs.phase.Stage.order.Tie as tie

@@ -1,4 +1,4 @@
--- By cases on the state.
+-- Init alone is no error.
 use borrow.Author.Needs.{needs}
 use Rattle.power_policy_interface.proofs.charger.State.on_initialized.Statement.{statement}
 use Rattle.power_policy_interface.proofs.charger.State.on_initialized.Tie as tie

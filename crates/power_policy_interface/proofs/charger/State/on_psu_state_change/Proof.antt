@@ -1,4 +1,4 @@
--- By cases on the state.
+-- Unpowered and Init are errors.
 use borrow.Author.Needs.{needs}
 use Rattle.power_policy_interface.proofs.charger.State.on_psu_state_change.Statement.{statement}
 use Rattle.power_policy_interface.proofs.charger.State.on_psu_state_change.Tie as tie

@@ -1,4 +1,4 @@
--- By cases on the state.
+-- A powered charger stays as it is.
 use borrow.Author.Needs.{needs}
 use Rattle.power_policy_interface.proofs.charger.State.on_ready_success.Statement.{statement}
 use Rattle.power_policy_interface.proofs.charger.State.on_ready_success.Tie as tie

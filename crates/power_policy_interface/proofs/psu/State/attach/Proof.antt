@@ -1,4 +1,4 @@
--- What the calls ensure makes result and record those of the definition.
+-- Idle is entered whatever the check finds.
 use borrow.Author.Needs.{needs}
 use Rattle.power_policy_interface.proofs.psu.State.attach.Statement.{statement}
 use Rattle.power_policy_interface.proofs.psu.State.attach.Tie as tie

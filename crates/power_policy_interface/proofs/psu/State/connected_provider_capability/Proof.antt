@@ -1,4 +1,4 @@
--- By cases on the state.
+-- One state of the four holds a provider's contract.
 use borrow.Author.Needs.{needs}
 use Rattle.power_policy_interface.proofs.psu.State.connected_provider_capability.Statement.{statement}
 use Rattle.power_policy_interface.proofs.psu.State.connected_provider_capability.Tie as tie

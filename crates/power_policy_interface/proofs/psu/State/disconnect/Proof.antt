@@ -1,4 +1,4 @@
--- What the calls ensure makes result and record those of the definition.
+-- Idle is entered whatever the check finds, with the capabilities kept or cleared.
 use borrow.Author.Needs.{needs}
 use Rattle.power_policy_interface.proofs.psu.State.disconnect.Statement.{statement}
 use Rattle.power_policy_interface.proofs.psu.State.disconnect.Tie as tie

@@ -1,4 +1,4 @@
--- What the calls ensure makes result and record those of the definition.
+-- The capability is set whatever the check finds.
 use borrow.Author.Needs.{needs}
 use Rattle.power_policy_interface.proofs.psu.State.update_consumer_power_capability.Statement.{statement}
 use Rattle.power_policy_interface.proofs.psu.State.update_consumer_power_capability.Tie as tie

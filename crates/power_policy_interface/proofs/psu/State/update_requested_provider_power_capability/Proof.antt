@@ -1,4 +1,4 @@
--- What the calls ensure makes result and record those of the definition.
+-- An equal request is Ok before any check; another is set whatever the check finds.
 use mathlib.Core.Path.{sym, _∙_}
 use borrow.Author.Needs.{needs}
 use Rattle.power_policy_interface.proofs.psu.State.update_requested_provider_power_capability.Statement.{statement}
