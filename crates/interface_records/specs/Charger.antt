@@ -6,6 +6,7 @@ use mathlib.Core.List.{List, [], _∷_}
 use mathlib.Core.Option.{Option, none, some}
 use lib.Dec.{eqb}
 use lib.ListN.{length, getD, replicate}
+use Rattle.power_policy_interface.specs.Limits.{maxChargers, chargerLength}
 use Rattle.power_policy_interface.specs.Charger.{internalNumber, defaultState}
 use Rattle.power_policy_interface.specs.declared.charger.InternalState.{InternalState}
 use Rattle.power_policy_interface.specs.declared.charger.PoweredSubstate.{PoweredSubstate}
@@ -38,16 +39,16 @@ chargerOf (ReadInternalState.Read s) (ReadConsumer.Read c) = ReadCharger.Read (r
 
 abbrev pub chargerFrom : List ℕ → ReadCharger
 chargerFrom s =
-    cond (eqb (length s) 7) (chargerOf (internalFrom (getD s 0 0)) (optionConsumerFrom (groupAt s 1))) ReadCharger.Refused
+    cond (eqb (length s) chargerLength) (chargerOf (internalFrom (getD s 0 0)) (optionConsumerFrom (groupAt s 1))) ReadCharger.Refused
 
 abbrev pub readCharger : ReadCharger → Option State
 readCharger ReadCharger.Refused = none
 readCharger (ReadCharger.Read s) = some s
 
 abbrev pub chargerRowOf : Option (List State) → Row
-chargerRowOf none = record { ok = false; chargers = replicate 8 defaultState }
-chargerRowOf (some l) = record { ok = true; chargers = filled 8 defaultState l }
+chargerRowOf none = record { ok = false; chargers = replicate maxChargers defaultState }
+chargerRowOf (some l) = record { ok = true; chargers = filled maxChargers defaultState l }
 
 -- the records of so many chargers, at most 8
 abbrev pub chargerRow : ℕ → List ℕ → Row
-chargerRow count s = chargerRowOf (row (λ (b : List ℕ). readCharger (chargerFrom b)) 7 8 count s)
+chargerRow count s = chargerRowOf (row (λ (b : List ℕ). readCharger (chargerFrom b)) chargerLength maxChargers count s)

@@ -6,6 +6,7 @@ use mathlib.Core.List.{List, [], _∷_, _++_}
 use mathlib.Core.Option.{Option, none, some}
 use lib.Dec.{eqb}
 use lib.ListN.{length, getD, replicate}
+use Rattle.power_policy_interface.specs.Limits.{maxPorts, psuLength}
 use Rattle.power_policy_interface.specs.Psu.{defaultState}
 use Rattle.power_policy_interface.specs.declared.capability.OptionConsumerPowerCapability.{OptionConsumerPowerCapability}
 use Rattle.power_policy_interface.specs.declared.capability.OptionProviderPowerCapability.{OptionProviderPowerCapability}
@@ -65,7 +66,7 @@ psuOf (ReadPsuState.Read s) (ReadConsumer.Read c) (ReadProvider.Read p) =
 
 abbrev pub psuFrom : List ℕ → ReadPsu
 psuFrom s =
-    cond (eqb (length s) 18)
+    cond (eqb (length s) psuLength)
     (psuOf (psuStateFrom (groupAt s 0)) (optionConsumerFrom (groupAt s 6)) (optionProviderFrom (groupAt s 12)))
     ReadPsu.Refused
 
@@ -74,9 +75,9 @@ readPsu ReadPsu.Refused = none
 readPsu (ReadPsu.Read s) = some s
 
 abbrev pub psuRowOf : Option (List State) → Row
-psuRowOf none = record { ok = false; psus = replicate 16 defaultState }
-psuRowOf (some l) = record { ok = true; psus = filled 16 defaultState l }
+psuRowOf none = record { ok = false; psus = replicate maxPorts defaultState }
+psuRowOf (some l) = record { ok = true; psus = filled maxPorts defaultState l }
 
 -- the records of so many ports, at most 16
 abbrev pub psuRow : ℕ → List ℕ → Row
-psuRow ports s = psuRowOf (row (λ (b : List ℕ). readPsu (psuFrom b)) 18 16 ports s)
+psuRow ports s = psuRowOf (row (λ (b : List ℕ). readPsu (psuFrom b)) psuLength maxPorts ports s)

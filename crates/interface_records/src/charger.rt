@@ -4,8 +4,13 @@ use crate::group::ReadConsumer;
 use power_policy_interface::charger::InternalState;
 use power_policy_interface::charger::PoweredSubstate;
 use power_policy_interface::charger::State;
+use power_policy_interface::limits::CHARGER_RECORD;
+use power_policy_interface::limits::MAX_CHARGERS;
 ghost use mathlib.Core.Path.{_≡_};
 ghost use Rattle.interface_records.specs.Charger.{internalFrom, chargerBytes, chargerFrom, chargerRow};
+
+// A row has a place for each charger.
+const ROW: usize = MAX_CHARGERS as usize;
 
 // What reading a charger record finds.
 pub enum ReadCharger {
@@ -33,7 +38,7 @@ pub fn read_state(b: u8) -> ReadInternalState
 }
 
 // The 7 bytes of a record.
-pub fn write(s: State) -> [u8; 7]
+pub fn write(s: State) -> [u8; CHARGER_RECORD]
     ensures { λ r. ⌜ r ≡ chargerBytes s ⌝ }
 {
     let state = s.state;
@@ -47,7 +52,7 @@ pub fn write(s: State) -> [u8; 7]
 pub fn read(s: &[u8]) -> ReadCharger
     ensures { λ r. ⌜ r ≡ chargerFrom (now (s .entry)) ⌝ }
 {
-    if s.len() != 7 {
+    if s.len() != CHARGER_RECORD {
         return ReadCharger::Refused;
     }
     let ReadInternalState::Read(state) = read_state(s[0]) else {
@@ -62,22 +67,22 @@ pub fn read(s: &[u8]) -> ReadCharger
 // The records of up to 8 chargers; those past the last charger are default records. Refused as a whole: all are.
 pub struct Row {
     pub ok: bool,
-    pub chargers: [State; 8],
+    pub chargers: [State; ROW],
 }
 
 // The records of so many chargers, one after the other: refused on more than 8, a wrong length or any refused record.
 pub fn read_row(s: &[u8], count: usize) -> Row
     ensures { λ r. ⌜ r ≡ chargerRow count (now (s .entry)) ⌝ }
 {
-    let mut chargers = [State::default(); 8];
+    let mut chargers = [State::default(); ROW];
     let refused = chargers;
-    if 8 < count {
+    if ROW < count {
         return Row {
             ok: false,
             chargers: refused,
         };
     }
-    if s.len() != count * 7 {
+    if s.len() != count * CHARGER_RECORD {
         return Row {
             ok: false,
             chargers: refused,
@@ -85,7 +90,7 @@ pub fn read_row(s: &[u8], count: usize) -> Row
     }
     let mut i: usize = 0;
     while i < count {
-        match read(&s[i * 7..i * 7 + 7]) {
+        match read(&s[i * CHARGER_RECORD..i * CHARGER_RECORD + CHARGER_RECORD]) {
             ReadCharger::Refused => {
                 return Row {
                     ok: false,

@@ -4,10 +4,15 @@ use crate::group::ReadConsumer;
 use crate::group::ReadProvider;
 use power_policy_interface::capability::OptionConsumerPowerCapability;
 use power_policy_interface::capability::OptionProviderPowerCapability;
+use power_policy_interface::limits::MAX_PORTS;
+use power_policy_interface::limits::PSU_RECORD;
 use power_policy_interface::psu::PsuState;
 use power_policy_interface::psu::State;
 ghost use mathlib.Core.Path.{_≡_};
 ghost use Rattle.interface_records.specs.Psu.{psuStateGroup, psuStateFrom, psuBytes, psuFrom, psuRow};
+
+// A row has a place for each port.
+const ROW: usize = MAX_PORTS as usize;
 
 // What reading a PSU record finds.
 pub enum ReadPsu {
@@ -68,7 +73,7 @@ pub fn read_state(g: Group) -> ReadPsuState
 }
 
 // The 18 bytes of a record.
-pub fn write(s: State) -> [u8; 18]
+pub fn write(s: State) -> [u8; PSU_RECORD]
     ensures { λ r. ⌜ r ≡ psuBytes s ⌝ }
 {
     let psu_state = s.psu_state;
@@ -103,7 +108,7 @@ pub fn write(s: State) -> [u8; 18]
 pub fn read(s: &[u8]) -> ReadPsu
     ensures { λ r. ⌜ r ≡ psuFrom (now (s .entry)) ⌝ }
 {
-    if s.len() != 18 {
+    if s.len() != PSU_RECORD {
         return ReadPsu::Refused;
     }
     let ReadPsuState::Read(psu_state) = read_state(Group::at(s, 0)) else {
@@ -126,22 +131,22 @@ pub fn read(s: &[u8]) -> ReadPsu
 // The records of up to 16 ports; those past the last port are default records. Refused as a whole: all are.
 pub struct Row {
     pub ok: bool,
-    pub psus: [State; 16],
+    pub psus: [State; ROW],
 }
 
 // The records of so many ports, one after the other: refused on more than 16 ports, a wrong length or any refused record.
 pub fn read_row(s: &[u8], ports: usize) -> Row
     ensures { λ r. ⌜ r ≡ psuRow ports (now (s .entry)) ⌝ }
 {
-    let mut psus = [State::default(); 16];
+    let mut psus = [State::default(); ROW];
     let refused = psus;
-    if 16 < ports {
+    if ROW < ports {
         return Row {
             ok: false,
             psus: refused,
         };
     }
-    if s.len() != ports * 18 {
+    if s.len() != ports * PSU_RECORD {
         return Row {
             ok: false,
             psus: refused,
@@ -149,7 +154,7 @@ pub fn read_row(s: &[u8], ports: usize) -> Row
     }
     let mut i: usize = 0;
     while i < ports {
-        match read(&s[i * 18..i * 18 + 18]) {
+        match read(&s[i * PSU_RECORD..i * PSU_RECORD + PSU_RECORD]) {
             ReadPsu::Refused => {
                 return Row {
                     ok: false,

@@ -4,21 +4,26 @@
 use power_policy_interface::capability::OptionProviderPowerCapability;
 use power_policy_interface::capability::PowerCapability;
 use power_policy_interface::capability::ProviderPowerCapability;
+use power_policy_interface::limits::MAX_PORTS;
 use power_policy_interface::psu::State;
 ghost use mathlib.Core.Path.{_≡_};
 ghost use Prim.Native.Nat.{min};
 ghost use lib.ListN.{length};
+ghost use Rattle.power_policy_interface.specs.Limits.{maxPorts};
 ghost use Rattle.power_policy_interface.specs.declared.capability.OptionPsuType.{OptionPsuType};
 ghost use Rattle.power_policy_service.specs.Provider.{providedMw, connectedMw, totalOf, requestedMw, totalWith};
 
+// Records of a row that count.
+const ROW: usize = MAX_PORTS as usize;
+
 // How many records of a row count.
 fn ports(len: usize) -> usize
-    ensures { λ r. ⌜ r ≡ min 16 len ⌝ }
+    ensures { λ r. ⌜ r ≡ min maxPorts len ⌝ }
 {
-    if len < 16 {
+    if len < ROW {
         return len;
     }
-    16
+    ROW
 }
 
 fn milliwatts(c: OptionProviderPowerCapability) -> u32
@@ -53,7 +58,7 @@ fn target_mw(s: State, port: usize, requester: u8, request: ProviderPowerCapabil
 
 // The total amount of power that is being supplied to external devices, with the requester's request in the place of its contract.
 pub fn total_with_request(psus: &[State], requester: u8, request: ProviderPowerCapability) -> u64
-    ensures { λ r. ⌜ r ≡ totalWith requester request (now (psus .entry)) (min 16 (length (now (psus .entry)))) ⌝ }
+    ensures { λ r. ⌜ r ≡ totalWith requester request (now (psus .entry)) (min maxPorts (length (now (psus .entry)))) ⌝ }
 {
     let n = ports(psus.len());
     let mut total: u64 = 0;
@@ -77,7 +82,7 @@ fn no_request() -> ProviderPowerCapability
 
 // The same where nobody requests: ports are 0 to 15.
 pub fn total(psus: &[State]) -> u64
-    ensures { λ r. ⌜ r ≡ totalOf (now (psus .entry)) (min 16 (length (now (psus .entry)))) ⌝ }
+    ensures { λ r. ⌜ r ≡ totalOf (now (psus .entry)) (min maxPorts (length (now (psus .entry)))) ⌝ }
 {
-    total_with_request(psus, 16, no_request())
+    total_with_request(psus, MAX_PORTS, no_request())
 }

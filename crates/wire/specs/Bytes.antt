@@ -4,6 +4,7 @@ use Prim.Native.Nat.{ℕ, zero, suc, _/_, _%_}
 use mathlib.Core.Bool.{cond}
 use mathlib.Core.List.{List, [], _∷_, _++_}
 use lib.Dec.{eqb}
+use Rattle.power_policy_interface.specs.Limits.{maxPorts}
 use Rattle.power_policy_interface.specs.Capability.{bit, consumerFlagsByte, providerFlagsByte, disconnectByte}
 use Rattle.power_policy_interface.specs.declared.capability.PowerCapability.{PowerCapability}
 use Rattle.power_policy_interface.specs.declared.service.UnconstrainedState.{UnconstrainedState}
@@ -52,7 +53,7 @@ portsFrom zero p m = []
 portsFrom (suc n) p m = cond (eqb (m % 2) 1) (p ∷ portsFrom n (suc p) (m / 2)) (portsFrom n (suc p) (m / 2))
 
 unfoldable pub portsBytes : ℕ → List ℕ
-portsBytes mask = portsFrom 16 0 mask
+portsBytes mask = portsFrom maxPorts 0 mask
 
 unfoldable pub pictureBytes : Picture → List ℕ
 pictureBytes p =

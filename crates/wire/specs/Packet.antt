@@ -4,6 +4,7 @@ use mathlib.Core.Bool.{_&&_}
 use mathlib.Core.List.{List, [], _∷_}
 use lib.Dec.{eqb, leb, ltb}
 use lib.ListN.{getD}
+use Rattle.power_policy_interface.specs.Limits.{largest, maxPorts, maxOrders, maxNotices}
 use Rattle.power_policy_interface.specs.Capability.{consumerFlagsFrom, providerFlagsFrom, disconnectFrom}
 use Rattle.power_policy_interface.specs.declared.capability.PowerCapability.{PowerCapability}
 use Rattle.power_policy_interface.specs.declared.capability.ConsumerFlags.{ConsumerFlags}
@@ -20,6 +21,7 @@ use Rattle.interface_display.specs.declared.OptionAvailableConsumer.{OptionAvai
 use Rattle.interface_display.specs.declared.notices.Notices.{Notices}
 use Rattle.interface_display.specs.declared.packet.Packet.{Packet}
 use Rattle.interface_display.specs.declared.packet.Picture.{Picture}
+use Rattle.interface_display.specs.Providers.{maxConnectedProviders}
 use Rattle.interface_display.specs.declared.providers.Providers.{Providers}
 use Rattle.wire.specs.Parser.{Parser, _>>=_, _>>_, done, wrong, holds, byte, end, field, number}
 
@@ -66,7 +68,7 @@ consumer = do
 unfoldable pub unconstrained : Parser UnconstrainedState
 unconstrained = do
   u ← field 1
-  n ← field 16
+  n ← field maxPorts
   done (record { unconstrained = eqb u 1; available = n })
 
 -- the notices, by their kinds
@@ -141,20 +143,20 @@ ports (suc k) low mask = do
 
 unfoldable pub eventNotices : ℕ → ℕ → ℕ → Parser Packet
 eventNotices n answer orders = do
-  count ← field 4
+  count ← field maxNotices
   l ← notices count empty
   end (Packet.Event (record { number = n; answer = answer; orders = orders; notices = l }))
 
 unfoldable pub eventAfter : ℕ → Parser Packet
 eventAfter n = do
   answer ← field 10
-  orders ← number 4294967295
-  holds (leb orders 35)
+  orders ← number largest
+  holds (leb orders maxOrders)
   eventNotices n answer orders
 
 unfoldable pub event : Parser Packet
 event = do
-  n ← number 4294967295
+  n ← number largest
   holds (ltb 0 n)
   eventAfter n
 
@@ -170,13 +172,13 @@ consumerGiven (suc n) = do
 unfoldable pub pictureAfter : ℕ → OptionAvailableConsumer → Parser Packet
 pictureAfter n c = do
   u ← unconstrained
-  count ← field 4
+  count ← field maxConnectedProviders
   p ← ports count 0 0
   end (Packet.Picture (record { number = n; display = record { consumer = c; unconstrained = u; providers = p } }))
 
 unfoldable pub picture : Parser Packet
 picture = do
-  n ← number 4294967295
+  n ← number largest
   present ← field 1
   c ← consumerGiven present
   pictureAfter n c

@@ -9,6 +9,7 @@ use interface_display::notices::Notices;
 use interface_display::packet::EventPacket;
 use interface_display::packet::Packet;
 use interface_display::packet::Picture;
+use interface_display::providers::MAX_CONNECTED_PROVIDERS;
 use interface_display::providers::Providers;
 use power_policy_interface::capability::ConsumerFlags;
 use power_policy_interface::capability::ConsumerPowerCapability;
@@ -19,6 +20,10 @@ use power_policy_interface::capability::OptionProviderFlags;
 use power_policy_interface::capability::PowerCapability;
 use power_policy_interface::capability::ProviderFlags;
 use power_policy_interface::capability::ProviderPowerCapability;
+use power_policy_interface::limits::LARGEST;
+use power_policy_interface::limits::MAX_NOTICES;
+use power_policy_interface::limits::MAX_ORDERS;
+use power_policy_interface::limits::MAX_PORTS;
 use power_policy_interface::service::UnconstrainedState;
 use power_policy_interface::service::event::Event;
 ghost use mathlib.Core.Path.{_≡_};
@@ -28,6 +33,12 @@ ghost use Rattle.interface_display.specs.Notices.{empty};
 ghost use Rattle.wire.specs.Parser.{then, end, field};
 ghost use Rattle.wire.specs.Packet.{capability, contract, consumer, consumerGiven, unconstrained, noticeOf, notice, notices, ports, event, eventAfter, eventNotices, picture, pictureAfter, consumerDisconnected, consumerConnected, providerDisconnected, providerConnected, unconstrainedChanged};
 ghost use Rattle.wire.specs.Read.{byteRest, byteUsed, capabilityRest, capabilityUsed, contractRest, contractUsed, consumerRest, consumerUsed, optionConsumerRest, optionConsumerUsed, unconstrainedRest, unconstrainedUsed, noticeRest, noticeUsed, noticesRead, portsRead, packetRead, readPacket};
+
+// The limits, as wide as what is compared with them.
+const ORDERS: u32 = MAX_ORDERS as u32;
+
+// Tracked ports.
+const TRACKED: u8 = MAX_CONNECTED_PROVIDERS as u8;
 
 // What reading a packet finds.
 pub enum ReadPacket {
@@ -211,7 +222,7 @@ fn read_unconstrained(s: &[u8]) -> ReadUnconstrained
         }
         ReadByte::Byte(u) => {
             let rest = &s[1..];
-            match read_field(rest, 16) {
+            match read_field(rest, MAX_PORTS) {
                 ReadByte::Refused(n) => {
                     return ReadUnconstrained::Refused(n);
                 }
@@ -451,7 +462,7 @@ fn read_option_consumer(present: u8, s: &[u8]) -> ReadOptionConsumer
 fn read_event(s: &[u8]) -> ReadPacket
     ensures { λ r. ⌜ r ≡ packetRead (event (now (s .entry))) ⌝ }
 {
-    match number::read(s, 4294967295) {
+    match number::read(s, LARGEST) {
         ReadNumber::Refused(n) => {
             return ReadPacket::Refused(n);
         }
@@ -477,7 +488,7 @@ fn read_event_after(number: u32, s: &[u8]) -> ReadPacket
         }
         ReadByte::Byte(answer) => {
             let rest = &s[1..];
-            match number::read(rest, 4294967295) {
+            match number::read(rest, LARGEST) {
                 ReadNumber::Refused(n) => {
                     return ReadPacket::Refused(n);
                 }
@@ -485,7 +496,7 @@ fn read_event_after(number: u32, s: &[u8]) -> ReadPacket
                     value: orders,
                     used,
                 } => {
-                    if 35 < orders {
+                    if ORDERS < orders {
                         return ReadPacket::Refused(32);
                     }
                     return read_event_notices(number, answer, orders as u8, &rest[used..]);
@@ -511,7 +522,7 @@ fn event_packet(number: u32, answer: u8, orders: u8, notices: Notices) -> ReadPa
 fn read_event_notices(number: u32, answer: u8, orders: u8, s: &[u8]) -> ReadPacket
     ensures { λ r. ⌜ r ≡ packetRead (eventNotices number answer orders (now (s .entry))) ⌝ }
 {
-    match read_field(s, 4) {
+    match read_field(s, MAX_NOTICES) {
         ReadByte::Refused(n) => {
             return ReadPacket::Refused(n);
         }
@@ -530,7 +541,7 @@ fn read_event_notices(number: u32, answer: u8, orders: u8, s: &[u8]) -> ReadPack
 fn read_picture(s: &[u8]) -> ReadPacket
     ensures { λ r. ⌜ r ≡ packetRead (picture (now (s .entry))) ⌝ }
 {
-    match number::read(s, 4294967295) {
+    match number::read(s, LARGEST) {
         ReadNumber::Refused(n) => {
             return ReadPacket::Refused(n);
         }
@@ -579,7 +590,7 @@ fn read_picture_after(number: u32, consumer: OptionAvailableConsumer, s: &[u8]) 
         }
         ReadUnconstrained::Unconstrained(unconstrained) => {
             let rest = &s[2..];
-            match read_field(rest, 4) {
+            match read_field(rest, TRACKED) {
                 ReadByte::Refused(n) => {
                     return ReadPacket::Refused(n);
                 }
