@@ -3,7 +3,7 @@
 -- Assumes nothing.
 use mathlib.Core.Path.{_≡_, refl, ap, sym, _∙_}
 use mathlib.Core.Bool.{Bool, true, false, cond}
-use mathlib.Core.List.{List, [], _∷_, _++_, append-nil, append-assoc}
+use mathlib.Core.List.{List, [], _++_, append-nil, append-assoc}
 use Prim.Native.Nat.{ℕ, zero, suc, _+_, _-_, _≤_, _<_}
 use native.Mathlib.Nat.{zero-add}
 use native.Mathlib.Omega.{arith}
@@ -13,7 +13,7 @@ use lib.Seq.{sets, sets-eq, take-at, take-all, length-take-le, drop-drop}
 use borrow.Author.Tests.{le-leb, lt-leb}
 use Rattle.wire_framing.specs.Framing.{framed}
 use Rattle.desk_report.specs.Desk.{steppedDesk, steppedBytes, steppedNext}
-use Rattle.desk_report.specs.Reads.{afterTake, taking, takeAll, writtenAfter}
+use Rattle.desk_report.specs.Reads.{afterTake, taking, takeAll}
 use Rattle.desk_report.specs.declared.desk.Desk.{Desk}
 use Rattle.desk_report.specs.declared.desk.Next.{Next}
 use Rattle.follow.specs.Held.{held, heldNext, holding, heldAll}
@@ -25,7 +25,7 @@ stored o line l n k e =
     let z : length (take n o ++ line) ≡ m = omega (arith, length-append (take n o) line, length-take-le n o (omega arith)) in
     rw (e, sets-eq line o n k) (take-at (take n o ++ line) (drop m o) m z)
 
--- and in its place 0
+-- and from the front on
 pub stored-front : (o line l : List ℕ) → length line ≤ length o → l ≡ sets o 0 line → take (length line) l ≡ line
 stored-front o line l k e =
     let z : 0 + length line ≡ length line = zero-add (length line) in

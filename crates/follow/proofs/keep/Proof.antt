@@ -1,5 +1,5 @@
 -- After i turns the first i bytes are moved; every place is within the bytes.
-use mathlib.Core.Path.{_≡_, refl, sym, _∙_}
+use mathlib.Core.Path.{_≡_, refl, _∙_}
 use Prim.Native.Nat.{_+_, _≤_, _<_, _-_}
 use native.Mathlib.Omega.{arith}
 use native.Mathlib.Numerals.{add-one}

@@ -2,7 +2,6 @@
 -- left become fewer.
 use mathlib.Core.Path.{_≡_, refl}
 use Prim.Native.Nat.{_≤_}
-use native.Mathlib.Omega.{arith}
 use lib.ListN.{length, take}
 use mathlib.Core.List.{[]}
 use Rattle.follow.specs.Took.{Stands}
