@@ -1,8 +1,9 @@
 #!/bin/sh
 # usage: build-overlay.sh [SRC [OUT]]
 #
-# Lays out OUT as cargo packages: each original file of SRC at its path, unchanged, and the stand-ins
-# of rust/stand-ins for what SRC does not have.
+# Lays out in OUT what the packages power-policy-interface and power-policy-service of rust/stand-ins are
+# compiled from: each original file of SRC at its path, unchanged, and the stand-ins for the files of
+# these two that SRC does not have.
 # SRC: the folder of the original sources; by default POWER_POLICY_RUST, else ../shared/docs/src
 #      beside the repository.
 # OUT: by default target/rust-overlay in the repository.
@@ -38,13 +39,13 @@ power-policy-service/src/service/mod.rs
 power-policy-service/src/service/provider.rs
 power-policy-service/src/service/registration.rs
 '
-ours=$(cd "$stand_ins" && find . \( -name '*.rs' -o -name Cargo.toml \) | sed 's|^\./||')
+ours=$(cd "$stand_ins" && find power-policy-* -name '*.rs')
 
 for file in $originals; do
     [ -f "$src/$file" ] || fail "the original $file is not in $src"
 done
 # A stand-in is for a file that cannot be had.
-for file in $ours; do
+for file in $(cd "$stand_ins" && find . -type f | sed 's|^\./||'); do
     [ ! -e "$src/$file" ] || fail "$file is in $src and has a stand-in too"
 done
 

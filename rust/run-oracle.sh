@@ -10,5 +10,5 @@ CARGO_TARGET_DIR=$(dirname "$here")/target/rust
 export CARGO_TARGET_DIR
 
 "$here/build-overlay.sh"
-cargo build --offline --locked --release --quiet --manifest-path "$here/oracle/Cargo.toml"
+cargo build --offline --locked --release --quiet --manifest-path "$here/Cargo.toml" -p oracle
 exec "$CARGO_TARGET_DIR/release/oracle" "$@"

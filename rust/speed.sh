@@ -9,8 +9,8 @@ set -eu
 cd "$(dirname "$0")/.."
 events=${1:-1000000}
 export CARGO_TARGET_DIR=$PWD/target/rust
-(cd rust/model && cargo --offline build --release --quiet)
-model=target/rust/release/model
+(cd rust && cargo build --offline --locked --profile timed --quiet -p link-model)
+model=target/rust/timed/model
 work=$(mktemp -d)
 trap 'rm -rf "$work"' EXIT
 TIMEFORMAT=%U

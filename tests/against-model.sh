@@ -17,7 +17,7 @@ if ! command -v cargo >/dev/null; then
 fi
 work=$(mktemp -d)
 trap 'rm -rf "$work"' EXIT
-if ! (cd rust/model && cargo --offline build --release) >"$work/log" 2>&1; then
+if ! (cd rust && cargo build --offline --locked --release -p link-model) >"$work/log" 2>&1; then
     cat "$work/log"
     echo "the model is not built"
     echo "0 passed, 1 failed"

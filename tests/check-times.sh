@@ -12,7 +12,7 @@ usage() {
     exit 2
 }
 
-# Reads what `rt ci` says. A crate's functions stand in the line before its own that begins with `logic=proved`.
+# Reads what `rt ci` says, or the gate of it. A crate's functions stand in the line before its own that begins with `logic=proved`; in the gate's at its end.
 tables() { # FILE
     awk '
         function seconds(word) { sub(/^\(/, "", word); return word + 0 }
@@ -24,8 +24,10 @@ tables() { # FILE
             if (!(name in edits)) order[++m] = name
             edits[name] = took
         }
+        { sub(/^[0-9]+ of [0-9]+: /, "") }
         /^logic=proved functions=[0-9]+ / { split($2, part, "="); functions = part[2] }
-        /^rt: [A-Za-z0-9_]+ proved \([0-9]+ s\)$/ { crate($2); check[$2] = seconds($4); has[$2] = functions; functions = "" }
+        /^rt: [A-Za-z0-9_]+ proved \([0-9]+ s\), [0-9]+ functions$/ { functions = $6 }
+        /^rt: [A-Za-z0-9_]+ proved \([0-9]+ s\)/ { crate($2); check[$2] = seconds($4); has[$2] = functions; functions = "" }
         /^rt: [A-Za-z0-9_]+ NOT PROVED/ { crate($2); check[$2] = "not proved"; bad = 1 }
         /^rt: [A-Za-z0-9_]+ ran[ ,]/ { program[$2] = " (program)" }
         /^rt: must-fail [^ ]+: refused, as it must be \(.*[0-9]+ s\)$/ { edit(substr($3, 1, length($3) - 1), seconds($(NF - 1))) }

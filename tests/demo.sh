@@ -1,8 +1,10 @@
 #!/bin/sh
 # usage: demo.sh
 #
-# Runs the demonstration and compares what it prints with examples/demo.txt, and runs it over the links of 200 other seeds: it ends with 1 if the desk
-# shows a number with other content than the console held at it. The archive is in target/staticlib or where POWER_POLICY_LIB says. Needs cargo.
+# Runs the demonstration and compares what it prints with examples/demo.txt, and the packets that its link handed over with examples/day.packets. Runs it
+# over the links of 200 other seeds: it ends with 1 if the desk shows a number with other content than the console held at it. Hands the packets to the
+# program `follow`: it shows what the desk of the demonstration shows. The archive is in target/staticlib or where POWER_POLICY_LIB says. Needs cargo, and
+# target/bin/follow (rt check follow).
 # Its last line is 'N passed, M failed'.
 set -u
 cd "$(dirname "$0")/.." || exit 2
@@ -32,8 +34,41 @@ default_day() {
     sh ./demo.sh >"$work/default"
 }
 
+day_packets() {
+    sh ./demo.sh --packets >"$work/day.packets"
+}
+
+# The lines of `follow` on a stream of packets.
+followed() { # PACKETS
+    target/bin/follow <"$1" 2>&1
+}
+
+# What the desk shows after each letter that it takes, as `follow` writes it: number, state, port and mW. The desk's columns follow the last bar. A letter that is
+# lost or delayed, and a step without one, is not taken.
+desk_lines() { # TABLE
+    sed -n -E 's/.*\| [ep][0-9]+( late| again)? +\| //p' "$1" |
+        awk '{ print $2, $1, $3, $3 == "-" ? "-" : $4 }'
+}
+
+# `follow` and the desk of the demonstration show the same, letter by letter.
+follow_agrees() { # SEED
+    "$demo" "$1" >"$work/table" && desk_lines "$work/table" >"$work/desk" || return 1
+    "$demo" --packets "$1" >"$work/packets" && followed "$work/packets" | sed -e 1d -e 's/^[0-9]* //' >"$work/follow" || return 1
+    [ -s "$work/desk" ] && diff "$work/desk" "$work/follow"
+}
+
+follow_agrees_on_all() {
+    for seed in 237 1000 1001 1002 1003 1004 1005 1006 1007 1008 1009; do
+        follow_agrees "$seed" || { echo "seed $seed"; return 1; }
+    done
+}
+
+recorded_lines() {
+    followed examples/day.packets >"$work/day.txt" && diff examples/day.txt "$work/day.txt"
+}
+
 finds_others() {
-    (cd rust/demo && cargo --offline test --release --quiet)
+    (cd rust && cargo test --offline --locked --release --quiet -p demo)
 }
 
 # Each line has at most 150 characters.
@@ -72,6 +107,10 @@ fi
 test_that "the demonstration is built and runs" default_day
 test_that "it prints what is recorded" diff examples/demo.txt "$work/default"
 test_that "no line is over 150 characters" narrow "$work/default"
+test_that "the packets that its link handed over are written" day_packets
+test_that "they are those that are recorded" cmp examples/day.packets "$work/day.packets"
+test_that "follow writes on them what is recorded" recorded_lines
+test_that "follow shows what the desk of the demonstration shows, eleven seeds" follow_agrees_on_all
 test_that "other content at the desk is found" finds_others
 test_that "200 other seeds: the desk shows what the console held" other_seeds
 test_that "these seeds have everything that a link does to a desk" differ

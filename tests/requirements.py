@@ -4,7 +4,7 @@
 Holds the identifiers of docs/REQUIREMENTS.md against what cites them. An identifier is given by a row of one of its tables, once and with what is required. Each is
 cited in a definition, a contract, a proof, an edit, docs/PROMISES.md, docs/DIFFERENCES.md or docs/DECISIONS.md; and each that is cited anywhere is given. A demand
 without its letter (as of DEM-3) cites the whole demand, and counts for none of its sentences. No file names what lies outside of the repository (LEFTOVERS).
-Documents are wrapped at 100 columns, but for tables and code; those of NOT_WRAPPED are not looked at.
+Documents are wrapped at 100 columns, but for tables and code.
 First each test is tried on a small repository in which something is wrong, and must find it. Writes a line for what is wrong, and last 'N passed, M failed'.
 """
 import os
@@ -21,7 +21,6 @@ ROW = re.compile(r"^\| ((?:%s|S\d+)-\d+[a-z]?) \|(.*)\|$" % SECTIONS, re.M)
 KEEPS = re.compile(r"crates/\w+/(specs|src|proofs|must-fail)/|tests/edits/|docs/(PROMISES|DIFFERENCES|DECISIONS)\.md$")
 LEFTOVERS = re.compile(r"[Dd]ocument[ ]0\d|[Ss]ection[ ]6\b|[Tt]he[ ]scope\b|[Tt]he[ ]papers?\b|\b0[12]'s\b")
 DOCUMENTS = re.compile(r"README\.md$|docs/[\w/-]+\.md$|rust/([\w-]+/)?README\.md$")
-NOT_WRAPPED = {"README.md"}
 COLUMNS = 100
 
 
@@ -89,7 +88,7 @@ def too_long(text):
 def columns(files):
     """Of each document: whether it is wrapped."""
     for path, text in sorted(files.items()):
-        if DOCUMENTS.match(path) and path not in NOT_WRAPPED:
+        if DOCUMENTS.match(path):
             number = too_long(text)
             yield "%s:%d: over %d columns" % (path, number, COLUMNS) if number else ""
 
@@ -103,7 +102,7 @@ RIGHT = {
     "crates/a/specs/A.antt": "-- %s: so\n" % ("FOL" "-1"),
     "crates/a/must-fail/wrong.edit": "# %s, as all of %s\n" % ("DEM" "-1a", "DEM" "-1"),
     "docs/STATE.md": "```\n%s\n```\n\n    %s\n\n| %s |\n%s\n" % ("x" * 101, "x" * 101, "x" * 101, "x" * 100),
-    "README.md": "x" * 101,
+    "README.md": "x" * 100,
 }
 PLANTED = (
     (GIVEN, RIGHT[GIVEN] + "| %s | once more |\n" % ("FOL" "-1"), "is given twice"),
@@ -120,6 +119,7 @@ PLANTED = (
     ("docs/GUIDE.md", "one\n" + "x " * 51, "over 100 columns"),
     ("docs/GUIDE.md", "10. one\n    %s\n" % ("x " * 51), "over 100 columns"),
     ("rust/a/README.md", "```\n```\n" + "x" * 101, "over 100 columns"),
+    ("README.md", "x" * 101, "over 100 columns"),
 )
 
 

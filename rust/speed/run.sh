@@ -14,13 +14,13 @@ case $src in /*) ;; *) src=$root/$src ;; esac
 export POWER_POLICY_LIB=$lib CARGO_TARGET_DIR=$root/target/rust
 features=
 if [ -d "$src" ]; then
-    export POWER_POLICY_RUST=$src
+    POWER_POLICY_RUST=$src rust/build-overlay.sh
 else
     features="--no-default-features --features archive"
     echo "the original Rust is not at $src: not timed in this run"
 fi
 # shellcheck disable=SC2086 # the features are words
-(cd rust/speed && cargo --offline run --release --quiet $features -- "$@")
+(cd rust && cargo run --offline --locked --profile timed --quiet -p speed $features -- "$@")
 
 # Code, constants and data; the archive has a section for each function.
 sizes() { # WHAT FILE

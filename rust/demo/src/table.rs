@@ -55,6 +55,8 @@ struct Counts {
 
 pub struct Table {
     pub text: String,
+    /// What the desk took, each packet or picture after its length.
+    pub packets: Vec<u8>,
     /// How often the desk showed what the console did not hold.
     pub differing: usize,
 }
@@ -140,6 +142,7 @@ impl World {
             counts: Counts::default(),
             table: Table {
                 text: String::new(),
+                packets: Vec::new(),
                 differing: 0,
             },
             service,
@@ -185,6 +188,9 @@ impl World {
 
     /// The desk takes a letter. Gives a note on what it made of it.
     fn take(&mut self, step: usize, letter: &Letter) -> Result<String, Error> {
+        // One byte: a packet has 64 bytes at most.
+        self.table.packets.push(letter.bytes.len() as u8);
+        self.table.packets.extend_from_slice(&letter.bytes);
         let (before, held) = (self.desk, self.follower);
         self.follower.take(&letter.bytes)?;
         self.desk = Desk::of(&self.follower)?;

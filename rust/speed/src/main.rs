@@ -15,10 +15,6 @@
 //!
 //! `run.sh` builds and runs this, without the original where its sources are not there, and adds the size of the archive.
 
-// Built by build.rs.
-#[cfg(feature = "original")]
-extern crate original;
-
 mod functions;
 mod runs;
 #[cfg(all(target_arch = "x86_64", unix))]
