@@ -150,5 +150,5 @@ total-spec 𝓤 H 𝓜 𝓖 𝓡 =
     (walk-meets 𝓤 H A total.ended stayed W (goes-none-slice 𝓤 H A W 1 (0 ∷ []) tt (plain (λ _. row state)) yes, tt) c (WpFn 𝓤 H C Λ code.function) (WpFn-mono 𝓤 H (W .laws) 𝓣 code.function)
     (walked 𝓤 H A total.ended stayed c (WpFn 𝓤 H C Λ code.function) (λ κs. (slice-vals, tt)) (λ κs. (shr-slice-tells (named 0) (κs .0) (row state), tt))
     (λ κs qs bounds a g are. via 𝓤 _ (fst∗ 𝓤 _ (emp 𝓤)) (walk 𝓤 H A W (𝓜 .mem) (𝓡 .run) (κs .0) (qs .0) (a .0) C Λ (fmOf 𝓤 H (W .laws) 𝓣)
-    (cited 𝓤 H (None 𝓤 H A (𝓜 .mem) (𝓡 .run)) 𝓜 𝓡 code.env none-def.name none-def.routine code.calls-psu-in-place·totals·no-request (none-theorem.met 𝓤 H 𝓜 𝓖 𝓡))
-    (cited 𝓤 H (With 𝓤 H A (𝓜 .mem) (𝓡 .run)) 𝓜 𝓡 code.env with-def.name with-def.routine code.calls-psu-in-place·totals·total-with-request (with-theorem.met 𝓤 H 𝓜 𝓖 𝓡)) (are .0)))))
+    (cited 𝓤 H (None 𝓤 H A (𝓜 .mem) (𝓡 .run)) 𝓜 𝓡 code.env none-def.name none-def.routine code.calls-policy-in-place·totals·no-request (none-theorem.met 𝓤 H 𝓜 𝓖 𝓡))
+    (cited 𝓤 H (With 𝓤 H A (𝓜 .mem) (𝓡 .run)) 𝓜 𝓡 code.env with-def.name with-def.routine code.calls-policy-in-place·totals·total-with-request (with-theorem.met 𝓤 H 𝓜 𝓖 𝓡)) (are .0)))))

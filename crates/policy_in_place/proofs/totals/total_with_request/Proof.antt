@@ -27,4 +27,4 @@ pub total-with-request-spec : {M : Type 1} → statement M
 unfolding code.routine
 total-with-request-spec 𝓤 H 𝓜 𝓖 𝓡 =
     summed state provider past requestedMw tt 𝓤 H 𝓜 𝓖 𝓡 (clauses 𝓤 H (𝓖 .A) (𝓜 .mem) (𝓡 .run)) (kept 𝓤 H (𝓖 .A) (𝓜 .mem) (𝓡 .run)) code.env name count.name figure.name (code.unfolded 𝓤 H 𝓜 𝓡) count.routine figure.routine
-    code.calls-psu-in-place·totals·ports (count-theorem.met 𝓤 H 𝓜 𝓖 𝓡) code.calls-psu-in-place·totals·target-mw (figure-theorem.met 𝓤 H 𝓜 𝓖 𝓡)
+    code.calls-policy-in-place·totals·ports (count-theorem.met 𝓤 H 𝓜 𝓖 𝓡) code.calls-policy-in-place·totals·target-mw (figure-theorem.met 𝓤 H 𝓜 𝓖 𝓡)
