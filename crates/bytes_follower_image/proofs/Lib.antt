@@ -5,3 +5,4 @@ pub mod Readers
 pub mod OneImage
 pub mod Takes
 pub mod ShownBy
+pub mod Tests

@@ -2,6 +2,7 @@
 -- that it can be decided.
 use Prim.Native.Nat.{ℕ}
 use mathlib.Core.Bool.{Bool, true, _&&_, _||_}
+use Rattle.power_policy_interface.specs.Limits.{window}
 use Rattle.interface_display.specs.declared.packet.EventPacket.{EventPacket}
 use Rattle.wire.specs.WellFormed.{eventFits, pictureFits}
 use Rattle.desk_follower.specs.WellFormed.{isNone, allPlaces, wellFormed}
@@ -17,4 +18,4 @@ shownFits (Shown.Lost floor) = true
 shownFits (Shown.Picture s) = pictureFits s
 
 abbrev pub imageFits : Follower → Bool
-imageFits f = wellFormed f && (shownFits (f .shown) && allPlaces heldFits 8 (f .held))
+imageFits f = wellFormed f && (shownFits (f .shown) && allPlaces heldFits window (f .held))

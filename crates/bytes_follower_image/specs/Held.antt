@@ -4,6 +4,7 @@ use mathlib.Core.Bool.{Bool, true, false}
 use mathlib.Core.List.{List, [], _∷_}
 use mathlib.Core.Option.{Option, none, some}
 use lib.ListN.{take, drop}
+use Rattle.power_policy_interface.specs.Limits.{window}
 use Rattle.interface_records.specs.Row.{written}
 use Rattle.interface_display.specs.declared.packet.EventPacket.{EventPacket}
 use Rattle.desk_follower.specs.Held.{nothing, put, heldFor}
@@ -27,7 +28,7 @@ slotThen (ReadSlot.Read p) f = f p
 -- the slots of k events from event m on, put into what is held
 abbrev pub slotsFrom : ℕ → ℕ → List ℕ → Held → Option Held
 slotsFrom m zero s h = some h
-slotsFrom m (suc k) s h = slotThen (slotFrom m (take 32 s)) (λ p. slotsFrom (suc m) k (drop 32 s) (put h (m % 8) p))
+slotsFrom m (suc k) s h = slotThen (slotFrom m (take 32 s)) (λ p. slotsFrom (suc m) k (drop 32 s) (put h (m % window) p))
 
 abbrev pub heldFrom : ℕ → List ℕ → Option Held
 heldFrom n s = slotsFrom (n + 2) 7 s nothing

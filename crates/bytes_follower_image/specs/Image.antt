@@ -7,7 +7,8 @@ use mathlib.Core.Option.{Option, none, some}
 use mathlib.Core.Path.{_≡_}
 use lib.Dec.{eqb, leb}
 use lib.ListN.{length, getD, drop, replicate}
-use Rattle.interface_display.specs.Providers.{len}
+use Rattle.power_policy_interface.specs.Limits.{maxPorts, followerLength}
+use Rattle.interface_display.specs.Providers.{len, maxConnectedProviders}
 use Rattle.interface_display.specs.declared.Display.{Display}
 use Rattle.interface_display.specs.declared.OptionAvailableConsumer.{OptionAvailableConsumer}
 use Rattle.interface_display.specs.declared.packet.Picture.{Picture}
@@ -51,7 +52,7 @@ portFits (OptionAvailableConsumer.Some c) = leb (c .psu) 15
 
 -- ports 0 to 15, available 0 to 16, at most four tracked
 abbrev pub displayFits : Display → Bool
-displayFits d = portFits (d .consumer) && (leb (d .unconstrained .available) 16 && leb (len (d .providers)) 4)
+displayFits d = portFits (d .consumer) && (leb (d .unconstrained .available) maxPorts && leb (len (d .providers)) maxConnectedProviders)
 
 abbrev pub showingWith : Picture → Option Held → Option Follower
 showingWith s none = none
@@ -69,7 +70,7 @@ followerCases b = lostIn b ∷ showingIn b ∷ []
 
 -- each group in its one form and in its range: what is read is well formed (proofs/OneImage.antt)
 abbrev pub followerIn : List ℕ → Option Follower
-followerIn b = cond (eqb (length b) 241 && eqb (getD b 0 0) 2) (getD (followerCases b) (getD b 1 0) none) none
+followerIn b = cond (eqb (length b) followerLength && eqb (getD b 0 0) 2) (getD (followerCases b) (getD b 1 0) none) none
 
 -- bytes that are refused are read as a fresh follower that is not ok
 abbrev pub followerRead : Option Follower → ReadFollower

@@ -1,9 +1,10 @@
 -- A notice as seven bytes (docs/STATE.md): its kind and a group of six, those that the kind does not use zeros.
-use Prim.Native.Nat.{ℕ, _+_}
-use mathlib.Core.Bool.{Bool, cond, _&&_}
+use Prim.Native.Nat.{ℕ, _+_, _*_, _/_, _%_}
+use mathlib.Core.Bool.{Bool, true, false, cond, _&&_}
 use mathlib.Core.List.{List, [], _∷_}
 use lib.Dec.{eqb, leb, ltb}
 use lib.ListN.{getD}
+use Rattle.power_policy_interface.specs.Limits.{maxPorts}
 use Rattle.power_policy_interface.specs.Capability.{bit, disconnectByte, disconnectFrom}
 use Rattle.power_policy_interface.specs.declared.capability.OptionConsumerPowerCapability.{OptionConsumerPowerCapability}
 use Rattle.power_policy_interface.specs.declared.capability.OptionProviderPowerCapability.{OptionProviderPowerCapability}
@@ -67,7 +68,7 @@ abbrev pub providerConnected : Group → ReadNotice
 providerConnected g = providerRead (g .number) (providerFrom g)
 
 abbrev pub figuresFit : Group → Bool
-figuresFit g = leb (g .number) 1 && (leb (g .v0) 16 && restZero g)
+figuresFit g = leb (g .number) 1 && (leb (g .v0) maxPorts && restZero g)
 
 abbrev pub unconstrainedChanged : Group → ReadNotice
 unconstrainedChanged g =
@@ -95,3 +96,36 @@ isZero n = eqb (n .tag) 0 && noGroup (n .group)
 -- place k of a count; past the count stands what pads notices
 abbrev pub placeFrom : ℕ → ℕ → Tagged → ReadNotice
 placeFrom count k n = cond (ltb k count) (noticeFrom n) (cond (isZero n) (ReadNotice.Read filler) ReadNotice.Refused)
+
+abbrev pub isNotice : ReadNotice → Bool
+isNotice ReadNotice.Refused = false
+isNotice (ReadNotice.Read e) = true
+
+-- testing, by the bytes alone: of a notice the kind, the port's byte, the one after it, the four that follow as a number, and the
+-- last of these (proofs/Tests.antt: a notice is read exactly where they fit)
+
+abbrev pub fourBytes : ℕ → ℕ → ℕ → ℕ → ℕ
+fourBytes a b c d = a + b * 256 + c * 65536 + d * 16777216
+
+-- a byte at most so much, and zeros after it
+abbrev pub pairFits : ℕ → ℕ → ℕ → Bool
+pairFits v most rest = leb v most && eqb rest 0
+
+abbrev pub providerFlagsFit : ℕ → Bool
+providerFlagsFit flags = cond (eqb (flags % 2) 1) false (leb (flags / 2) 6)
+
+abbrev pub figuresTested : ℕ → ℕ → ℕ → Bool
+figuresTested unconstrained available rest = leb unconstrained 1 && pairFits available maxPorts rest
+
+abbrev pub kindCases : ℕ → ℕ → ℕ → ℕ → List Bool
+kindCases port v rest flags =
+    false
+    ∷ pairFits v 6 rest
+    ∷ leb (flags / 2) 6
+    ∷ pairFits v 0 rest
+    ∷ providerFlagsFit flags
+    ∷ figuresTested port v rest
+    ∷ []
+
+abbrev pub bytesFit : ℕ → ℕ → ℕ → ℕ → ℕ → Bool
+bytesFit kind port v rest flags = leb port 15 && getD (kindCases port v rest flags) kind false

@@ -5,7 +5,7 @@ use mathlib.Core.Bool.{Bool, true, false, cond, _&&_}
 use mathlib.Core.List.{List, [], _∷_, _++_}
 use lib.Dec.{eqb, leb}
 use lib.ListN.{getD, replicate}
-use Rattle.power_policy_interface.specs.Limits.{largest}
+use Rattle.power_policy_interface.specs.Limits.{largest, maxOrders, maxNotices}
 use Rattle.power_policy_interface.specs.declared.service.event.Event.{Event}
 use Rattle.interface_display.specs.declared.notices.Notices.{Notices}
 use Rattle.interface_display.specs.declared.packet.EventPacket.{EventPacket}
@@ -61,6 +61,10 @@ abbrev pub fromFourth : ℕ → Event → Event → Event → List ℕ → ReadN
 fromFourth count a b c s =
     noticesOf count (ReadNotice.Read a) (ReadNotice.Read b) (ReadNotice.Read c) (placeFrom count 3 (taggedAt s 25))
 
+abbrev pub areNotices : ReadNotices → Bool
+areNotices ReadNotices.Refused = false
+areNotices (ReadNotices.Read n) = true
+
 abbrev pub packetOf : ℕ → ℕ → ℕ → ReadNotices → ReadSlot
 packetOf number answer orders ReadNotices.Refused = ReadSlot.Refused
 packetOf number answer orders (ReadNotices.Read n) =
@@ -68,7 +72,7 @@ packetOf number answer orders (ReadNotices.Read n) =
 
 -- the event can have the number, and answer, orders and count are within what a packet has
 abbrev pub headFits : ℕ → ℕ → ℕ → ℕ → Bool
-headFits number answer orders count = leb number largest && (leb answer 10 && (leb orders 35 && leb count 4))
+headFits number answer orders count = leb number largest && (leb answer 10 && (leb orders maxOrders && leb count maxNotices))
 
 abbrev pub packetFrom : ℕ → List ℕ → ReadSlot
 packetFrom number s =

@@ -10,10 +10,14 @@ use desk_follower::Follower;
 use interface_display::Display;
 use interface_display::OptionAvailableConsumer;
 use interface_display::packet::Picture;
+use interface_display::providers::MAX_CONNECTED_PROVIDERS;
+use power_policy_interface::limits::FOLLOWER_IMAGE;
+use power_policy_interface::limits::MAX_PORTS;
 ghost use mathlib.Core.Path.{_≡_};
 ghost use mathlib.Core.List.{_∷_};
 ghost use lib.ListN.{length};
 ghost use lib.Seq.{sets};
+ghost use Rattle.power_policy_interface.specs.Limits.{followerLength};
 ghost use Rattle.bytes_groups.specs.Quad.{quadBytes, numberQuad};
 ghost use Rattle.bytes_follower_image.specs.Image.{lostBytes, lostIn, portFits, displayFits, showingIn, followerIn, shownRead, ShownBy, shownHead};
 
@@ -48,8 +52,8 @@ fn display_fits(d: Display) -> bool
     let u = d.unconstrained;
     let p = d.providers;
     if port_fits(c) {
-        if u.available <= 16 {
-            return p.len() <= 4;
+        if u.available <= MAX_PORTS {
+            return p.len() <= MAX_CONNECTED_PROVIDERS;
         }
         return false;
     }
@@ -58,7 +62,7 @@ fn display_fits(d: Display) -> bool
 
 // Lost: zeros stand after the floor.
 fn shown_lost(image: &[u8]) -> ReadShown
-    requires { ⌜ length (now image) ≡ 241 ⌝ }
+    requires { ⌜ length (now image) ≡ followerLength ⌝ }
     ensures { λ r. ⌜ r ≡ shownRead (lostIn (now (image .entry))) ⌝ }
 {
     if slot::is_zero(&image[6..]) {
@@ -69,7 +73,7 @@ fn shown_lost(image: &[u8]) -> ReadShown
 
 // Showing: the number and the display, where the slots are slots.
 fn shown_picture(image: &[u8]) -> ReadShown
-    requires { ⌜ length (now image) ≡ 241 ⌝ }
+    requires { ⌜ length (now image) ≡ followerLength ⌝ }
     ensures { λ r. ⌜ r ≡ shownRead (showingIn (now (image .entry))) ⌝ }
 {
     let number = Quad::at(image, 2).number();
@@ -90,7 +94,7 @@ pub fn read_shown(image: &[u8]) -> ReadShown
     ensures { λ r. ⌜ r ≡ shownRead (followerIn (now (image .entry))) ⌝ }
     ensures { λ r. ⌜ ShownBy (now (image .entry)) r ⌝ }
 {
-    if image.len() != 241 {
+    if image.len() != FOLLOWER_IMAGE {
         return ReadShown::Refused;
     }
     if image[0] != 2 {

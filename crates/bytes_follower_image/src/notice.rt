@@ -7,11 +7,15 @@ use power_policy_interface::capability::OptionConsumerPowerCapability;
 use power_policy_interface::capability::OptionDisconnectFlags;
 use power_policy_interface::capability::OptionDisconnectReason;
 use power_policy_interface::capability::OptionProviderPowerCapability;
+use power_policy_interface::limits::MAX_PORTS;
 use power_policy_interface::service::UnconstrainedState;
 use power_policy_interface::service::event::Event;
 ghost use mathlib.Core.Path.{_≡_};
+ghost use Prim.Native.Nat.{_+_, _≤_};
+ghost use lib.Dec.{eqb};
+ghost use lib.ListN.{length};
 ghost use Rattle.bytes_groups.specs.Tagged.{taggedAt};
-ghost use Rattle.bytes_follower_image.specs.Notice.{pairGroup, noticeTagged, placeTagged, restZero, consumerDisconnected, consumerConnected, providerDisconnected, providerConnected, unconstrainedChanged, noticeFrom, isZero, placeFrom};
+ghost use Rattle.bytes_follower_image.specs.Notice.{pairGroup, noticeTagged, placeTagged, restZero, consumerDisconnected, consumerConnected, providerDisconnected, providerConnected, unconstrainedChanged, noticeFrom, isZero, placeFrom, fourBytes, pairFits, providerFlagsFit, figuresTested, bytesFit, isNotice};
 
 // What reading a notice finds.
 pub enum ReadNotice {
@@ -160,7 +164,7 @@ fn unconstrained_changed(g: Group) -> ReadNotice
     if 1 < unconstrained {
         return ReadNotice::Refused;
     }
-    if 16 < available {
+    if MAX_PORTS < available {
         return ReadNotice::Refused;
     }
     if rest_is_zero(g) {
@@ -226,4 +230,83 @@ pub(crate) fn place_at(s: &[u8], at: usize, count: u8, k: u8) -> ReadNotice
     ensures { λ r. ⌜ r ≡ placeFrom count k (taggedAt (now (s .entry)) at) ⌝ }
 {
     read_place(count, k, Tagged::at(s, at))
+}
+
+// Four bytes as one number: 0 where all are, and one load for the machine.
+fn four(a: u8, b: u8, c: u8, d: u8) -> u32
+    ensures { λ r. ⌜ r ≡ fourBytes a b c d ⌝ }
+{
+    (a as u32) + (b as u32) * 256 + (c as u32) * 65536 + (d as u32) * 16777216
+}
+
+// Whether a byte is at most so much and zeros follow it.
+fn pair_fits(v: u8, most: u8, rest: u32) -> bool
+    ensures { λ r. ⌜ r ≡ pairFits v most rest ⌝ }
+{
+    if v <= most {
+        return rest == 0;
+    }
+    false
+}
+
+// Whether a flag byte is that of a provider.
+fn provider_flags_fit(flags: u8) -> bool
+    ensures { λ r. ⌜ r ≡ providerFlagsFit flags ⌝ }
+{
+    if flags % 2 == 1 {
+        return false;
+    }
+    flags / 2 <= 6
+}
+
+// Whether both figures are within theirs and zeros follow.
+fn figures_fit(unconstrained: u8, available: u8, rest: u32) -> bool
+    ensures { λ r. ⌜ r ≡ figuresTested unconstrained available rest ⌝ }
+{
+    if unconstrained <= 1 {
+        return pair_fits(available, MAX_PORTS, rest);
+    }
+    false
+}
+
+// Whether seven bytes are a notice: the kind, the port's byte, the one after it, the four that follow as a number, and the last of these.
+fn fits(kind: u8, port: u8, v: u8, rest: u32, flags: u8) -> bool
+    ensures { λ r. ⌜ r ≡ bytesFit kind port v rest flags ⌝ }
+{
+    if 15 < port {
+        return false;
+    }
+    match kind {
+        0 => false,
+        1 => pair_fits(v, 6, rest),
+        2 => flags / 2 <= 6,
+        3 => pair_fits(v, 0, rest),
+        4 => provider_flags_fit(flags),
+        5 => figures_fit(port, v, rest),
+        _ => false,
+    }
+}
+
+// Whether all seven are zeros, the last four as a number.
+fn all_zero(kind: u8, port: u8, v: u8, rest: u32) -> bool
+    ensures { λ r. ⌜ r ≡ eqb (kind + port + v + rest) 0 ⌝ }
+{
+    (kind as u64) + (port as u64) + (v as u64) + (rest as u64) == 0
+}
+
+// Whether the seven bytes from a place of a slot on are those of place k of a count. Nothing is made of them.
+pub(crate) fn place_fits(s: &[u8], at: usize, count: u8, k: u8) -> bool
+    requires { ⌜ at + 7 ≤ length (now s) ⌝ }
+    ensures { λ r. ⌜ r ≡ isNotice (placeFrom count k (taggedAt (now (s .entry)) at)) ⌝ }
+{
+    let kind = s[at];
+    let port = s[at + 1];
+    let v = s[at + 2];
+    let flags = s[at + 6];
+    let rest = four(s[at + 3], s[at + 4], s[at + 5], flags);
+    let meant = k < count;
+    if meant {
+        return fits(kind, port, v, rest, flags);
+    }
+    all_zero(kind, port, v, rest)
 }

@@ -5,11 +5,14 @@ use bytes_groups::place;
 use desk_follower::held::no_packet;
 use interface_display::notices::Notices;
 use interface_display::packet::EventPacket;
+use power_policy_interface::limits::MAX_NOTICES;
+use power_policy_interface::limits::MAX_ORDERS;
 use power_policy_interface::service::event::Event;
 ghost use mathlib.Core.Path.{_≡_};
 ghost use mathlib.Core.Bool.{_&&_};
 ghost use lib.Dec.{eqb};
-ghost use Rattle.bytes_follower_image.specs.Slot.{packetBytes, slotBytes, noticesFrom, fromSecond, fromThird, fromFourth, headFits, packetFrom, zeros, slotFrom, isRead};
+ghost use lib.ListN.{length};
+ghost use Rattle.bytes_follower_image.specs.Slot.{packetBytes, slotBytes, noticesFrom, areNotices, fromSecond, fromThird, fromFourth, headFits, packetFrom, zeros, slotFrom, isRead};
 
 // What reading the notices of a slot finds.
 pub enum ReadNotices {
@@ -182,10 +185,10 @@ fn head_fits(number: u64, answer: u8, orders: u8, count: u8) -> bool
     if 10 < answer {
         return false;
     }
-    if 35 < orders {
+    if MAX_ORDERS < orders {
         return false;
     }
-    count <= 4
+    count <= MAX_NOTICES
 }
 
 // The packet of an event, out of a slot that holds one.
@@ -233,12 +236,47 @@ pub fn read(s: &[u8], number: u64) -> ReadSlot
     }
 }
 
-// Whether the bytes are those of a slot of this event.
-pub fn fits(s: &[u8], number: u64) -> bool
+// Whether the four places of a slot are those of a count of notices.
+fn notices_fit(s: &[u8], count: u8) -> bool
+    requires { ⌜ length (now s) ≡ 32 ⌝ }
+    ensures { λ r. ⌜ r ≡ areNotices (noticesFrom count (now (s .entry))) ⌝ }
+{
+    if notice::place_fits(s, 4, count, 0) {
+        if notice::place_fits(s, 11, count, 1) {
+            if notice::place_fits(s, 18, count, 2) {
+                return notice::place_fits(s, 25, count, 3);
+            }
+        }
+    }
+    false
+}
+
+// Whether the bytes are those of the packet of this event, in a slot that holds one.
+fn packet_fits(s: &[u8], number: u64) -> bool
+    requires { ⌜ length (now s) ≡ 32 ⌝ }
+    ensures { λ r. ⌜ r ≡ isRead (packetFrom number (now (s .entry))) ⌝ }
+{
+    let count = s[3];
+    if head_fits(number, s[1], s[2], count) {
+        return notices_fit(s, count);
+    }
+    false
+}
+
+// Whether the bytes are those of a slot of this event. They are tested where they stand; no packet is made of them.
+pub(crate) fn fits(s: &[u8], number: u64) -> bool
+    requires { ⌜ length (now s) ≡ 32 ⌝ }
     ensures { λ r. ⌜ r ≡ isRead (slotFrom number (now (s .entry))) ⌝ }
 {
-    match read(s, number) {
-        ReadSlot::Refused => false,
-        ReadSlot::Read(_) => true,
+    match s[0] {
+        0 => {
+            return is_zero(s);
+        }
+        1 => {
+            return packet_fits(s, number);
+        }
+        _ => {
+            return false;
+        }
     }
 }

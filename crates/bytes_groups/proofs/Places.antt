@@ -2,12 +2,15 @@
 -- of bytes below 256 is made of such.
 -- Assumes nothing.
 use mathlib.Core.Path.{_≡_, refl, ap, _∙_}
+use mathlib.Core.Bool.{Bool, true, false}
 use mathlib.Core.List.{List, [], _∷_, _++_, append-nil}
-use Prim.Native.Nat.{ℕ, zero, suc, _+_, _≤_, _<_}
+use Prim.Native.Nat.{ℕ, zero, suc, _+_, _-_, _≤_, _<_, min}
 use native.Mathlib.Nat.{suc-inj, add-zero}
 use native.Mathlib.Omega.{arith}
-use lib.ListN.{length, getD, set, drop}
-use lib.Seq.{sets, sets-eq, drop-length}
+use lib.Dec.{leb}
+use lib.ListN.{length, getD, set, drop, drop-of-length-le}
+use lib.Seq.{sets, sets-eq, set-out, drop-length}
+use borrow.Author.Tests.{leb-true, leb-false}
 use Rattle.interface_records.specs.Row.{AllBytes}
 
 -- n elements from place i on
@@ -45,6 +48,25 @@ sets-all vs l e =
     let h : 0 + length vs ≤ length l = omega arith in
     let k : 0 + length vs ≡ length l = omega arith in
     sets-eq vs l 0 h ∙ (ap (λ (n : ℕ). vs ++ drop n l) k ∙ (ap (λ (r : List ℕ). vs ++ r) (drop-length l) ∙ append-nil vs))
+
+-- what lies past the end is not stored
+
+pub sets-past : (vs l : List ℕ) (i : ℕ) → length l ≤ i → sets l i vs ≡ l
+sets-past [] l i h = refl
+sets-past (v ∷ vs) l i h =
+    let e : set l i v ≡ l = set-out l i v h in
+    let k : length l ≤ suc i = omega arith in
+    rw e (sets-past vs l (suc i) k)
+
+-- after as many as fit, nothing is left to store
+pub sets-rest : (s l : List ℕ) (at n : ℕ) → min (length s) (length l - at) ≤ n → sets l (at + n) (drop n s) ≡ l
+sets-rest s l at n h = by (leb (length s) n) refl
+  where
+    by : (b : Bool) → leb (length s) n ≡ b → sets l (at + n) (drop n s) ≡ l
+    by true e = rw (drop-of-length-le s {i = n} (leb-true (length s) n e))
+    by false e =
+        let k : n < length s = leb-false (length s) n e in
+        sets-past (drop n s) l (at + n) (omega arith)
 
 -- bytes below 256
 

@@ -10,7 +10,8 @@ use native.Mathlib.Omega.{arith}
 use lib.Dec.{eqb}
 use lib.ListN.{length, getD, set, drop, replicate, length-append, List·getD-append}
 use lib.Seq.{sets, sets-eq, drop-at, getD-append-add, getD-set-same, getD-set-other, ext-getD}
-use borrow.Author.Tests.{eqb-true, eqb-false, eq-eqb, ne-eqb}
+use borrow.Author.Tests.{eqb-true, eqb-false, eq-eqb, ne-eqb, leb-true}
+use Rattle.power_policy_interface.specs.Limits.{largest}
 use Rattle.interface_records.specs.Row.{written}
 use Rattle.interface_display.specs.declared.packet.EventPacket.{EventPacket}
 use Rattle.interface_display.specs.declared.packet.Packet.{Packet}
@@ -69,10 +70,10 @@ first-byte b s h k i l =
     ap (λ (x : List ℕ). getD x (17 + k * 32) 0) (i .bytes)
     ∙ (getD-append-add (shownHead (s .number) (s .display)) (heldBytes (s .number) h) (k * 32) 0 ∙ row-first (s .number + 2) 7 k h l)
 
--- it is 0 where none is held, else 1
+-- it is 0 where none is held, else 1, and then an event can have the number
 pub data Byte (m : ℕ) (p : EventPacket) : Type 0 where
   empty : p ≡ held.none → getD (slotBytes p) 0 0 ≡ 0 → Byte m p
-  full : p .number ≡ m → getD (slotBytes p) 0 0 ≡ 1 → Byte m p
+  full : p .number ≡ m → m ≤ 4294967295 → getD (slotBytes p) 0 0 ≡ 1 → Byte m p
 
 told-byte : (m : ℕ) (p : EventPacket) → Told m p → Byte m p
 told-byte m p t = by (t .told)
@@ -82,7 +83,7 @@ told-byte m p t = by (t .told)
     by (inr q) =
         let k = parts p (q .1) in
         let l : p .number ≡ 0 → ⊥ = λ z. omega (arith, z, k .positive) in
-        full (q .0) (rw (ne-eqb (p .number) 0 l))
+        full (q .0) (omega (arith, leb-true (p .number) largest (k .number), q .0)) (rw (ne-eqb (p .number) 0 l))
 
 -- nothing held, place by place
 
@@ -113,14 +114,21 @@ module _ (b : List ℕ) (s : Picture) (h : Held) (i : ImageOf b s h) where
     where
       by : Byte (s .number + 2 + k) (heldFor h (s .number + 2 + k)) → heldFor h (s .number + 2 + k) ≡ held.none
       by (empty z q) = z
-      by (full z q) = absurd (omega (arith, q, e, first-byte b s h k i l))
+      by (full z u q) = absurd (omega (arith, q, e, first-byte b s h k i l))
 
   pub slot-full : (k : ℕ) → k < 7 → (getD b (17 + k * 32) 0 ≡ 0 → ⊥) → heldFor h (s .number + 2 + k) .number ≡ s .number + 2 + k
   slot-full k l e = by (slot-byte k l)
     where
       by : Byte (s .number + 2 + k) (heldFor h (s .number + 2 + k)) → heldFor h (s .number + 2 + k) .number ≡ s .number + 2 + k
       by (empty z q) = absurd (e (first-byte b s h k i l ∙ q))
-      by (full z q) = z
+      by (full z u q) = z
+
+  pub slot-low : (k : ℕ) → k < 7 → (getD b (17 + k * 32) 0 ≡ 0 → ⊥) → s .number + 2 + k ≤ 4294967295
+  slot-low k l e = by (slot-byte k l)
+    where
+      by : Byte (s .number + 2 + k) (heldFor h (s .number + 2 + k)) → s .number + 2 + k ≤ 4294967295
+      by (empty z q) = absurd (e (first-byte b s h k i l ∙ q))
+      by (full z u q) = u
 
   -- nothing is held where every first byte is 0
 
@@ -162,7 +170,7 @@ module _ (b : List ℕ) (s : Picture) (h : Held) (i : ImageOf b s h) where
     where
       by : Byte (s .number + 2 + k) (heldFor h (s .number + 2 + k)) → getD b (17 + k * 32) 0 ≡ 0
       by (empty z q) = first-byte b s h k i l ∙ q
-      by (full z q) = absurd (omega (arith, z, none-numbers 8 h e ((s .number + 2 + k) % 8) (mod8 (s .number + 2 + k))))
+      by (full z u q) = absurd (omega (arith, z, none-numbers 8 h e ((s .number + 2 + k) % 8) (mod8 (s .number + 2 + k))))
 
   sum-zero : noneHeld 8 h ≡ true → noneIn b ≡ true
   sum-zero e =

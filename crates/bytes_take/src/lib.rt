@@ -17,6 +17,7 @@ use interface_display::State;
 use interface_display::packet::EventPacket;
 use interface_display::packet::Packet;
 use interface_display::packet::Picture;
+use power_policy_interface::limits::WINDOW;
 ghost use mathlib.Core.Path.{_≡_};
 ghost use mathlib.Core.Bool.{true, cond};
 ghost use mathlib.Core.List.{_++_};
@@ -24,6 +25,7 @@ ghost use Prim.Native.Nat.{_+_, _*_, _-_, _<_, min};
 ghost use lib.Dec.{eqb};
 ghost use lib.ListN.{length, getD, take, drop, replicate};
 ghost use lib.Seq.{sets};
+ghost use Rattle.power_policy_interface.specs.Limits.{window, followerLength};
 ghost use Rattle.interface_display.specs.declared.packet.Packet.{Packet};
 ghost use Rattle.interface_display.specs.declared.State.{State};
 ghost use Rattle.desk_follower.specs.Held.{greatest, above};
@@ -79,7 +81,7 @@ fn hold(image: &mut [u8], at: usize, e: EventPacket)
 
 // Shows a picture in an image that shows n: the slots up to its number are dropped.
 fn show_after(image: &mut [u8], n: u32, q: Picture)
-    requires { ⌜ (length (now image) ≡ 241) × (n < q .number) ⌝ }
+    requires { ⌜ (length (now image) ≡ followerLength) × (n < q .number) ⌝ }
     ensures { λ _. ⌜ now (image .exit) ≡ sets (take 17 (now (image .entry)) ++ (drop (17 + (q .number - n) * 32) (now (image .entry)) ++ replicate (min 224 ((q .number - n) * 32)) 0)) 0 (shownHead (q .number) (q .display)) ⌝ }
 {
     drop_slots(image, q.number - n);
@@ -89,8 +91,8 @@ fn show_after(image: &mut [u8], n: u32, q: Picture)
 
 // A picture above the one shown, and the packets that follow it in turn. With nothing held none does.
 fn advance(image: &mut [u8], s: Picture, p: Picture)
-    requires { ⌜ (length (now image) ≡ 241) × (s .number < p .number) ⌝ }
-    ensures { λ _. ⌜ ((h : Held) → ImageOf (now (image .entry)) s h → now (image .exit) ≡ followerBytes (outcome (greatest (p .number) 8 h) (turned 8 (p .number) (p .display) h) (p .number) (above (p .number) 8 h))) ⌝ }
+    requires { ⌜ (length (now image) ≡ followerLength) × (s .number < p .number) ⌝ }
+    ensures { λ _. ⌜ ((h : Held) → ImageOf (now (image .entry)) s h → now (image .exit) ≡ followerBytes (outcome (greatest (p .number) window h) (turned window (p .number) (p .display) h) (p .number) (above (p .number) window h))) ⌝ }
 {
     if none_held(image) {
         let display = p.display;
@@ -110,7 +112,7 @@ fn advance(image: &mut [u8], s: Picture, p: Picture)
 
 // The next event: its notices act, or its error makes the follower lost.
 fn take_next(image: &mut [u8], s: Picture, e: EventPacket)
-    requires { ⌜ (length (now image) ≡ 241) × (e .number ≡ s .number + 1) ⌝ }
+    requires { ⌜ (length (now image) ≡ followerLength) × (e .number ≡ s .number + 1) ⌝ }
     ensures { λ _. ⌜ ((h : Held) → ImageOf (now (image .entry)) s h → now (image .exit) ≡ followerBytes (takenAt (Shown.Picture s) h (Packet.Event e))) ⌝ }
 {
     if e.answer != 0 {
@@ -130,7 +132,7 @@ fn take_next(image: &mut [u8], s: Picture, e: EventPacket)
 
 // Showing: an event packet numbered n or less is dropped; beyond n + 8 it makes the follower lost; n + 1 is the next; the others are held.
 fn take_event(image: &mut [u8], s: Picture, e: EventPacket)
-    requires { ⌜ length (now image) ≡ 241 ⌝ }
+    requires { ⌜ length (now image) ≡ followerLength ⌝ }
     ensures { λ _. ⌜ ((h : Held) → ImageOf (now (image .entry)) s h → now (image .exit) ≡ followerBytes (takenAt (Shown.Picture s) h (Packet.Event e))) ⌝ }
 {
     let n = s.number;
@@ -139,7 +141,7 @@ fn take_event(image: &mut [u8], s: Picture, e: EventPacket)
         return;
     }
     let ahead = number - n;
-    if 8 < ahead {
+    if WINDOW < ahead {
         write_lost(image, number);
         return;
     }
@@ -152,7 +154,7 @@ fn take_event(image: &mut [u8], s: Picture, e: EventPacket)
 
 // Showing: a picture numbered above n is shown, another is dropped.
 fn take_picture(image: &mut [u8], s: Picture, p: Picture)
-    requires { ⌜ length (now image) ≡ 241 ⌝ }
+    requires { ⌜ length (now image) ≡ followerLength ⌝ }
     ensures { λ _. ⌜ ((h : Held) → ImageOf (now (image .entry)) s h → now (image .exit) ≡ followerBytes (takenAt (Shown.Picture s) h (Packet.Picture p))) ⌝ }
 {
     if p.number <= s.number {
@@ -163,7 +165,7 @@ fn take_picture(image: &mut [u8], s: Picture, p: Picture)
 
 // Showing: an event packet or a picture.
 fn take_shown(image: &mut [u8], s: Picture, p: Packet)
-    requires { ⌜ length (now image) ≡ 241 ⌝ }
+    requires { ⌜ length (now image) ≡ followerLength ⌝ }
     ensures { λ _. ⌜ ((h : Held) → ImageOf (now (image .entry)) s h → now (image .exit) ≡ followerBytes (takenAt (Shown.Picture s) h p)) ⌝ }
 {
     match p {

@@ -1,10 +1,8 @@
 -- Slot by slot, the greatest so far.
-use mathlib.Core.Path.{_≡_, refl, sym, ap, _∙_}
+use mathlib.Core.Path.{_≡_, sym, ap, _∙_}
 use Prim.Native.Nat.{ℕ, _+_, _-_, _≤_, _<_, max}
 use native.Mathlib.Omega.{arith}
-use denote.Ref.{now}
 use lib.ListN.{length}
-use Rattle.interface_display.specs.declared.packet.EventPacket.{EventPacket}
 use Rattle.interface_display.specs.declared.packet.Picture.{Picture}
 use Rattle.desk_follower.specs.Held.{heldFor}
 use Rattle.desk_follower.specs.Follower.{showing}
@@ -30,8 +28,8 @@ add-event c = search needs
 loop-holds : tie.Need-loop-holds Inv-loop μ-loop
 loop-holds c = (search needs, omega arith, omega arith, search needs, λ s h i e. sym (most-start (c .before .args .number) (c .before .args .n + 2) h))
 
-held-at-requires : tie.Need-held-at-requires Inv-loop μ-loop
-held-at-requires c κs = search needs
+number-at-requires : tie.Need-number-at-requires Inv-loop μ-loop
+number-at-requires c κs = search needs
 
 greater-requires : tie.Need-greater-requires Inv-loop μ-loop
 greater-requires c κs = search needs
@@ -54,9 +52,9 @@ loop-again c =
       omega (arith, l .inv .2),
       l .inv .3,
       λ s h i e.
-          let q = c .before .held-at .ensures .0 s h i (omega (arith, e, l .inv .2)) in
-          let a : c .before .held-at .result .number ≡ heldFor h (x .n + 2 + l .k) .number =
-          ap (λ (p : EventPacket). p .number) (q ∙ ap (heldFor h) (l .inv .2)) in
+          let q = c .before .number-at .ensures s h i (omega (arith, e, l .inv .2)) in
+          let a : c .before .number-at .result ≡ heldFor h (x .n + 2 + l .k) .number =
+          q ∙ ap (λ (j : ℕ). heldFor h j .number) (l .inv .2) in
           c .greater .ensures ∙ ((λ j. max (l .inv .4 s h i e j) (a j)) ∙ sym (most-next (x .number) (x .n + 2) (l .k) h)),
     )
 
@@ -76,7 +74,7 @@ greatest-spec =
     μ-loop
     add-event
     loop-holds
-    held-at-requires
+    number-at-requires
     greater-requires
     add-event-2
     add-k
