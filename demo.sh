@@ -40,9 +40,27 @@ places() { # CRATES
     [ -n "$ended" ]
 }
 
+# The crates that one stands on, by crates.txt, which has what each names itself.
+crates_below() { # CRATE
+    awk -F: -v last="$1" '
+        /^[a-z]/ { names[$1] = $2 }
+        END {
+            list[count = 1] = last
+            for (i = 1; i <= count; i++) {
+                n = split(names[list[i]], more, " ")
+                for (k = 1; k <= n; k++)
+                    if (more[k] in names && !(more[k] in seen)) {
+                        seen[more[k]]
+                        list[++count] = more[k]
+                        print more[k]
+                    }
+            }
+        }' crates.txt
+}
+
 # Proves the crates that the archive stands on, and then the archive's own, which is compiled as it is proved.
 prove() {
-    below=$(sed -n 's/^power_policy: //p' crates.txt)
+    below=$(crates_below power_policy)
     # shellcheck disable=SC2086 # the crates are words
     crates=$(($(printf '%s\n' $below | wc -l) + 1))
     mkdir -p target
