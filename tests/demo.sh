@@ -8,27 +8,9 @@
 # Its last line is 'N passed, M failed'.
 set -u
 cd "$(dirname "$0")/.." || exit 2
-lib=${POWER_POLICY_LIB:-target/staticlib}
-case $lib in /*) ;; *) lib=$PWD/$lib ;; esac
+. tests/lib.sh
 export POWER_POLICY_LIB="$lib" CARGO_TARGET_DIR="$PWD/target/rust"
 demo=$CARGO_TARGET_DIR/release/demo
-passed=0
-failed=0
-work=$(mktemp -d)
-trap 'rm -rf "$work"' EXIT
-
-test_that() { # WHAT COMMAND..
-    what=$1
-    shift
-    if "$@" >"$work/log" 2>&1; then
-        passed=$((passed + 1))
-        echo "ok: $what"
-    else
-        failed=$((failed + 1))
-        cat "$work/log"
-        echo "FAILED: $what"
-    fi
-}
 
 default_day() {
     sh ./demo.sh >"$work/default"
@@ -115,5 +97,4 @@ test_that "other content at the desk is found" finds_others
 test_that "200 other seeds: the desk shows what the console held" other_seeds
 test_that "these seeds have everything that a link does to a desk" differ
 
-echo "$passed passed, $failed failed"
-[ "$failed" -eq 0 ]
+finish

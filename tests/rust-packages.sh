@@ -8,27 +8,9 @@
 # Where rustfmt or clippy is not installed it says so and counts nothing for it. Needs cargo. Its last line is 'N passed, M failed'.
 set -u
 cd "$(dirname "$0")/.." || exit 2
+. tests/lib.sh
 src=${POWER_POLICY_RUST:-../shared/docs/src}
-lib=${POWER_POLICY_LIB:-target/staticlib}
-case $lib in /*) ;; *) lib=$PWD/$lib ;; esac
 export POWER_POLICY_LIB="$lib" CARGO_TARGET_DIR="$PWD/target/rust"
-passed=0
-failed=0
-log=$(mktemp)
-trap 'rm -f "$log"' EXIT
-
-test_that() { # WHAT COMMAND..
-    what=$1
-    shift
-    if "$@" >"$log" 2>&1; then
-        passed=$((passed + 1))
-        echo "ok: $what"
-    else
-        failed=$((failed + 1))
-        cat "$log"
-        echo "FAILED: $what"
-    fi
-}
 
 # A crate root of the original names modules that stand elsewhere, so it is read alone.
 layout() {
@@ -71,5 +53,4 @@ for package in link-model plain power_policy; do
 done
 test_that "the own tests of speed" own_tests speed --no-default-features --features archive
 
-echo "$passed passed, $failed failed"
-[ "$failed" -eq 0 ]
+finish
