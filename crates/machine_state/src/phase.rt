@@ -102,7 +102,7 @@ impl Phase {
     }
 }
 
-// Where a call leaves the event.
+// Where a call leaves the event: its phase, which is what is left of it, as data, and what it has come to so far.
 pub struct Turn {
     pub phase: Phase,
     pub memory: Memory,
