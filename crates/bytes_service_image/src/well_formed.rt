@@ -2,6 +2,7 @@
 use abstract_policy::state::InternalState;
 use abstract_policy::state::Registration;
 use interface_display::OptionAvailableConsumer;
+use interface_display::providers::MAX_CONNECTED_PROVIDERS;
 use interface_display::providers::Providers;
 use machine_service::Service;
 use machine_service::refusals::is_waiting;
