@@ -4,7 +4,8 @@
 Compares the C functions as they are written in four places: the Rattle source that exports them (crates/power_policy/src/lib.rt), the C header,
 the Rust crate's declarations, and the safe functions around these with what they hand on. Names, order, names and types of the arguments and the
 result's type must be equal. docs/STATE.md must name the same functions; header and Rust crate must have the same lengths, refusals and words for
-refusals, and one version. Both configurations must be the same in header, Rust crate and Rattle (crates/power_policy_service/src/config.rt), and the
+refusals, and one version; the lengths and limits of Rattle (crates/power_policy_interface/src/limits.rt) must be those of the definitions (specs/Limits.antt
+beside it) and, where the header has them, its. Both configurations must be the same in header, Rust crate and Rattle (crates/power_policy_service/src/config.rt), and the
 header's configuration must have the fields that a start takes, and hand them on in order. The milliseconds of a wait must be the same in header, Rust
 crate, the definition (crates/abstract_calls/specs/Numbers.antt) and the Rattle that an order's number is made by (crates/bytes_calls/src/numbers.rt).
 Every function of the header must have a comment of its own.
@@ -275,6 +276,26 @@ def numbers(texts):
     return in_header, in_rust
 
 
+# in code, and in the definitions
+LIMITS = {
+    "LARGEST": "largest", "MAX_PORTS": "maxPorts", "MAX_CHARGERS": "maxChargers", "MAX_ORDERS": "maxOrders", "MAX_NOTICES": "maxNotices", "WINDOW": "window",
+    "PSU_RECORD": "psuLength", "CHARGER_RECORD": "chargerLength", "SERVICE_IMAGE": "serviceLength", "FOLLOWER_IMAGE": "followerLength", "BUFFER": "bufferLength",
+}
+
+
+def limits(texts):
+    """What differs in the lengths and limits, as lines."""
+    code = {name: int(value) for name, value in re.findall(r"^pub const (\w+): \w+ = (\d+);$", without_comments(texts["limits"]), flags=re.M)}
+    defined = {name: int(value) for name, value in re.findall(r"^(\w+) = (\d+)$", texts["defined limits"], flags=re.M)}
+    found = []
+    if defined != {LIMITS.get(name, name): value for name, value in code.items()} or set(code) != set(LIMITS):
+        found.append(f"lengths and limits: the definitions {defined}, the code {code}")
+    in_header = {name: value for name, value in numbers(texts)[0].items() if name in code}
+    if len(in_header) != 7 or any(code[name] != value for name, value in in_header.items()):
+        found.append(f"lengths and limits: the header {in_header}, the code {code}")
+    return found
+
+
 def waits(texts):
     """The milliseconds of a wait, in each place as often as they are written there."""
     places = (
@@ -336,7 +357,7 @@ def differences(texts):
     in_header, in_rust = numbers(texts)
     if in_header != in_rust or len(in_header) != 22:
         found.append(f"numbers: the header {in_header}, the Rust crate {in_rust}")
-    found += differing(texts)
+    found += differing(texts) + limits(texts)
     millis = waits(texts)
     if any(len(values) != 1 or values != millis["the header"] for values in millis.values()):
         found.append(f"milliseconds of a wait: {millis}")
@@ -376,6 +397,10 @@ def changes(texts):
         ("header", "uint64_t power_policy_order(", "uint32_t power_policy_order("),
         ("header", "POWER_POLICY_IMAGE 67", "POWER_POLICY_IMAGE 66"),
         ("header", "POWER_POLICY_REFUSED_BUFFER = 29", "POWER_POLICY_REFUSED_BUFFER = 28"),
+        ("limits", "SERVICE_IMAGE: usize = 67", "SERVICE_IMAGE: usize = 68"),
+        ("limits", "MAX_ORDERS: u8 = 35", "MAX_ORDER: u8 = 35"),
+        ("defined limits", "window = 8", "window = 9"),
+        ("defined limits", "followerLength = 241", "followersLength = 241"),
         ("ffi", "threshold_mw: u64", "threshold_mw: u32"),
         ("ffi", "packet: *const u8", "packet: *mut u8"),
         ("ffi", "            kind,\n            device,\n", "            device,\n            kind,\n"),
@@ -413,6 +438,10 @@ def changes(texts):
     for place in ("header", "crate"):
         both[place] = texts[place].replace(" 800", " 801")
     yield "header and crate: a wait of 801 milliseconds", both
+    both = dict(texts)
+    for place in ("header", "crate"):
+        both[place] = re.sub(r"(IMAGE(?:: usize =)?) 67", r"\1 68", texts[place])
+    yield "header and crate: an image of 68 bytes", both
 
 
 def main():
@@ -429,6 +458,8 @@ def main():
         "reply": ROOT / "rust/power_policy/src/reply.rs",
         "state": ROOT / "docs/STATE.md",
         "definition": ROOT / "crates/abstract_calls/specs/Numbers.antt",
+        "limits": ROOT / "crates/power_policy_interface/src/limits.rt",
+        "defined limits": ROOT / "crates/power_policy_interface/specs/Limits.antt",
         "numbers": ROOT / "crates/bytes_calls/src/numbers.rt",
     }
     missing = [str(path) for path in files.values() if not path.is_file()]
