@@ -2,9 +2,10 @@
 """usage: layers.py [--write]
 
 Holds the picture under "## Layers" in README.md against crates.txt: each room of crates.txt, the last first, with its crates and the rooms that these name
-directly. A crate that names one of a later room, or of its own room further down, fails. With --write the picture is put into README.md. The last line is
-'N passed, M failed'.
+directly. A crate that names one of a later room, or of its own room further down, fails, and so does an edit (crates/*/must-fail, tests/edits) that names a
+crate which the edited one does not list. With --write the picture is put into README.md. The last line is 'N passed, M failed'.
 """
+import glob
 import os
 import re
 import sys
@@ -41,6 +42,19 @@ def picture(found):
     return "\n".join(text) + "\n"
 
 
+def edits(found):
+    """Of each edit: the crates that its new lines name and its crate does not list."""
+    listed = {crate: set(names) | {crate} for _, crates in found for crate, names in crates}
+    paths = glob.glob(os.path.join(ROOT, "crates", "*", "must-fail", "*.edit")) + glob.glob(os.path.join(ROOT, "tests", "edits", "*", "*.edit"))
+    for path in sorted(paths):
+        short = os.path.relpath(path, ROOT)
+        crate = short.split(os.sep)[1 if short.startswith("crates") else 2]
+        with open(path, encoding="utf-8") as f:
+            new = "".join(line for line in f if line.startswith("new:"))
+        named = set(re.findall(r"(?<![\w:.])([a-z_]+)::", new)) | set(re.findall(r"Rattle·([a-z_]+)\.", new))
+        yield ["%s names %s, which %s does not list" % (short, one, crate) for one in sorted(named & set(listed) - listed[crate])]
+
+
 def main():
     found = rooms()
     wrong, before = [], set()
@@ -48,6 +62,8 @@ def main():
         for crate, names in crates:
             wrong += ["crates.txt: %s stands before %s, which it names" % (crate, one) for one in names if one not in before]
             before.add(crate)
+    tried = list(edits(found))
+    wrong += [line for lines in tried for line in lines]
     path = os.path.join(ROOT, "README.md")
     with open(path, encoding="utf-8") as f:
         readme = f.read()
@@ -62,7 +78,7 @@ def main():
             wrong.append("README.md's picture is not that of crates.txt: tests/layers.py --write")
     for line in wrong:
         print(line)
-    print("%d passed, %d failed" % (len(before) + 1 - len(wrong), len(wrong)))
+    print("%d passed, %d failed" % (len(before) + len(tried) + 1 - len(wrong), len(wrong)))
     return 1 if wrong else 0
 
 

@@ -95,7 +95,7 @@ pub fn step(step: Step) -> u64
     }
 }
 
-// So many bytes were written, at most 64.
+// So many bytes were written, at most 255.
 pub fn written(length: usize) -> u64
     ensures { λ r. ⌜ r ≡ writtenNumber length ⌝ }
 {
