@@ -11,19 +11,20 @@ use lib.Seq.{sets, length-sets, length-take-le}
 use Rattle.interface_display.specs.declared.State.{State}
 use Rattle.wire.specs.Read.{readPacket}
 use Rattle.wire.specs.declared.packet.ReadPacket.{ReadPacket}
+use Rattle.abstract_page.specs.Text.{decimal, word}
+use Rattle.abstract_page.proofs.Decimal.{length-to}
 use Rattle.desk_follower.specs.Follower as follower
 use Rattle.desk_follower.specs.declared.Follower.{Follower}
 use Rattle.desk_follower.specs.declared.OptionNumber.{OptionNumber}
 use Rattle.wire_framing.specs.Framing.{framed}
 use Rattle.wire_framing.specs.declared.Framed.{Framed}
 use Rattle.wire_framing.proofs.Frames.{Told, frame-told}
-use Rattle.desk_report.specs.Text.{decimal, number, word, refused}
+use Rattle.desk_report.specs.Text.{number, refused}
 use Rattle.desk_report.specs.Line.{lineOf, lineBytes, refusedBytes, spaced}
 use Rattle.desk_report.specs.Desk.{counted, lineRead, lineFor, bytesAt, nextAt, steppedBytes, steppedNext, endBytes}
 use Rattle.desk_report.specs.declared.desk.Desk.{Desk}
 use Rattle.desk_report.specs.declared.desk.Next.{Next}
 use Rattle.desk_report.specs.declared.line.Line.{Line}
-use Rattle.desk_report.proofs.Decimal.{length-to}
 
 number-length : (n : OptionNumber) → length (number n) ≤ 20
 number-length OptionNumber.None = omega arith

@@ -1,4 +1,5 @@
-// What `follow` writes: decimal digits, its lines, and what a packet makes of the follower and its line.
+// What programs print of the follower: decimal digits, the lines of `follow` and what a packet makes of the follower and its line, the page.
 pub mod desk;
 pub mod line;
+pub mod page;
 pub mod text;
