@@ -1,9 +1,10 @@
-//! Takes compared with rust/model, a model of packets and follower that was written by itself.
+//! Takes and pages compared with rust/model, a model of packets, follower and page that was written by itself.
 
 use link_model::{
     follower::Follower,
     generate,
     packet::{Capability, Display, Event, Notice, flags_byte},
+    page,
 };
 
 use crate::{
@@ -93,6 +94,27 @@ fn packets(stream: &[u8]) -> Vec<&[u8]> {
     packets
 }
 
+/// The page of an image is the model's, and says what the model's follower shows.
+fn compare_page(calls: &dyn Calls, image: &[u8], model: &Follower) -> Result<(), String> {
+    let call = Call::FollowerWritePage(vec![0xEE; PAGE + 2]);
+    let after = perform(calls, image, &call)?;
+    let wanted = page::page(model);
+    let text = String::from_utf8_lossy;
+    if after.written() != wanted {
+        let given = text(&after.buffer);
+        return Err(format!(
+            "gives {:#x} and the page {given:?}; the model {:?}",
+            after.result,
+            text(&wanted)
+        ));
+    }
+    let said = page::read(after.written());
+    if said != Some(page::entries(model)) {
+        return Err(format!("the page is read as {said:?}"));
+    }
+    Ok(())
+}
+
 pub fn run(report: &mut Report, calls: &dyn Calls, seed: u64, count: usize) {
     let streams = [
         ("valid packets", generate::packet_stream(seed, count / 4)),
@@ -127,7 +149,7 @@ pub fn run(report: &mut Report, calls: &dyn Calls, seed: u64, count: usize) {
             let result = perform(calls, &before, &call).and_then(|after| {
                 let shown = perform(calls, &after.image, &Call::FollowerShown)?.result;
                 if (after.result, &after.image, shown) == (wanted, &wanted_image, wanted_shown) {
-                    return Ok(());
+                    return compare_page(calls, &after.image, &model);
                 }
                 Err(format!(
                     "gives {:#x} {} shown {shown:#x}; the model {wanted:#x} {} shown {wanted_shown:#x}",
