@@ -64,6 +64,7 @@ from_model() { # GENERATOR..
 
 # Writes bytes given in hex.
 bytes() { # HEX..
+    # shellcheck disable=SC2059 # the format is made of the bytes
     printf "$(printf '\\x%s' "$@")"
 }
 
@@ -88,7 +89,7 @@ failed_event="05 01 03 07 01 00"
 shows() { # FIGURES PACKET..
     local figures=$1
     shift
-    # shellcheck disable=SC2086 # figures and bytes are words
+    # shellcheck disable=SC2048,SC2086 # figures and bytes are words
     { page $figures >"$work/page"; [ $# -eq 0 ] || bytes $*; } >"$work/in"
     $sheet <"$work/in" >"$work/out" 2>"$work/err"
     same "the page after $# takes of the example" $? "$work/page" "$work/out" "$work/none" "$work/err"
