@@ -44,6 +44,7 @@ use Rattle.promise_invariant.proofs.Good.{Good}
 use Rattle.bytes_calls.specs.Calls.{readerCall, shownAs, trackedIn}
 use Rattle.abi_functions.specs.Ours.{functions}
 use Rattle.abstract_calls.proofs.Lists.{packets-on}
+use Rattle.interface_display.specs.declared.State.{State}
 use Rattle.abstract_page.specs.Page.{entriesOf}
 use Rattle.promise_link.specs.Alike.{heldFrom, seenAt, seen}
 use Rattle.promise_link.proofs.Alike.{alike}
