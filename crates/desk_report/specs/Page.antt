@@ -1,8 +1,9 @@
 -- A page as the code has it; what it says is said in abstract_page's words.
 use Prim.Native.Nat.{ℕ, _-_}
-use mathlib.Core.Bool.{true, false, cond}
+use mathlib.Core.Bool.{cond}
 use mathlib.Core.List.{List}
 use mathlib.Core.Path.{_≡_}
+use lib.Dec.{eqb}
 use lib.ListN.{length}
 use Rattle.interface_display.specs.Providers.{none}
 use Rattle.interface_display.specs.declared.OptionAvailableConsumer.{OptionAvailableConsumer}
@@ -19,13 +20,13 @@ use Rattle.desk_report.specs.declared.page.Page.{Page}
 use Rattle.desk_report.specs.declared.text.Right.{Right}
 
 abbrev pub given : ℕ → code.Figure
-given n = record { present = true; value = n }
+given n = record { present = 1; value = n }
 
 abbrev pub nothing : code.Figure
-nothing = record { present = false; value = 0 }
+nothing = record { present = 0; value = 0 }
 
 abbrev pub figureOf : code.Figure → Figure
-figureOf f = cond (f .present) (one (f .value)) absent
+figureOf f = cond (eqb (f .present) 1) (one (f .value)) absent
 
 abbrev pub entriesIn : Page → List Entry
 entriesIn p =

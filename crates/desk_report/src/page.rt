@@ -23,9 +23,9 @@ ghost use Rattle.abstract_page.specs.Text.{newline, decimal, word, right};
 ghost use Rattle.abstract_page.specs.Page.{absent, commas, text, ports};
 ghost use Rattle.desk_report.specs.Page.{figureOf, pageBytes, lostPage, showingPage, pageFor, Holds};
 
-// A number, or nothing, and then the value is 0: a struct, so that the value is set either way.
+// A number, present 1, or nothing, both 0. No byte of it is unset, whichever it is, and none lies between the two.
 pub struct Figure {
-    pub present: bool,
+    pub present: u32,
     pub value: u32,
 }
 
@@ -47,7 +47,7 @@ impl Page {
         ensures { λ r. ⌜ r ≡ lostPage ⌝ }
     {
         let none = Figure {
-            present: false,
+            present: 0,
             value: 0,
         };
         Page {
@@ -68,13 +68,13 @@ impl Page {
         let consumer = display.consumer;
         let tracked = display.providers;
         let number = Figure {
-            present: true,
+            present: 1,
             value: p.number,
         };
         match consumer {
             OptionAvailableConsumer::None => {
                 let none = Figure {
-                    present: false,
+                    present: 0,
                     value: 0,
                 };
                 return Page {
@@ -90,15 +90,15 @@ impl Page {
                 let with_flags = c.consumer_power_capability;
                 let capability = with_flags.capability;
                 let port = Figure {
-                    present: true,
+                    present: 1,
                     value: c.psu as u32,
                 };
                 let mv = Figure {
-                    present: true,
+                    present: 1,
                     value: capability.voltage_mv as u32,
                 };
                 let ma = Figure {
-                    present: true,
+                    present: 1,
                     value: capability.current_ma as u32,
                 };
                 return Page {
@@ -141,7 +141,7 @@ fn absent_columns() -> [u8; 20]
 fn number_columns(f: Figure) -> [u8; 20]
     ensures { λ r. ⌜ r ≡ right 20 (text (figureOf f)) ⌝ }
 {
-    if f.present {
+    if f.present == 1 {
         let d = digits_of(f.value as u64);
         let text = d.text;
         return text;

@@ -1,4 +1,5 @@
 -- The digits after blanks, or a hyphen.
+use borrow.Author.Tests.{eq-eqb, ne-eqb}
 use borrow.Author.Needs.{needs}
 use Rattle.desk_report.proofs.Columns.{digits-right}
 use Rattle.desk_report.proofs.page.number_columns.Statement.{statement}
@@ -13,13 +14,13 @@ digits-of-requires c κs = search needs
 returns : tie.Need-returns
 returns c =
     let d = c .before .digits-of in
-    rw (c .before .before .before .if1 .taken) (digits-right (d .result .text) _ (d .result .from) (d .ensures .0) (d .ensures .1) (d .ensures .2) (d .ensures .3))
+    rw (eq-eqb _ 1 (c .before .before .before .if1 .taken)) (digits-right (d .result .text) _ (d .result .from) (d .ensures .0) (d .ensures .1) (d .ensures .2) (d .ensures .3))
 
 absent-columns-requires : tie.Need-absent-columns-requires
 absent-columns-requires c κs = search needs
 
 returns-2 : tie.Need-returns-2
-returns-2 c = rw (c .before .if1 .left) (c .absent-columns .ensures)
+returns-2 c = rw (ne-eqb _ 1 (c .before .if1 .left)) (c .absent-columns .ensures)
 
 pub number-columns-spec : {M : Type 1} → statement M
 number-columns-spec =
