@@ -2,3 +2,4 @@ pub mod Text
 pub mod Line
 pub mod Desk
 pub mod Reads
+pub mod Buffer

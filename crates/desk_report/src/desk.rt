@@ -8,15 +8,17 @@ use wire_framing::Framed;
 ghost use mathlib.Core.Path.{_≡_};
 ghost use lib.ListN.{length};
 ghost use lib.Seq.{sets};
-ghost use Rattle.desk_report.specs.Desk.{fresh, counted, takenBy, lineFor, steppedDesk, steppedBytes, steppedNext, endBytes};
+ghost use Rattle.desk_report.specs.Desk.{fresh, counted, lineTaken, takenBy, lineFor, steppedDesk, steppedBytes, steppedNext, endBytes};
 
 pub struct Desk {
+    // Whether a packet that is taken has a line; one that is refused always has.
+    pub lines: bool,
     // How many packets there were, refused ones too.
     pub packets: u64,
     pub follower: Follower,
 }
 
-// A line was written, so many bytes long.
+// So many bytes of a line were written.
 pub struct Taken {
     pub desk: Desk,
     pub written: usize,
@@ -48,47 +50,62 @@ fn count(k: u64) -> u64
     k
 }
 
+// The line of a packet that was taken, if it has one.
+fn write_taken(lines: bool, k: u64, f: Follower, out: &mut [u8; 128]) -> usize
+    ensures { λ r. ⌜ (r ≡ length (lineTaken lines k f)) × (now (out .exit) ≡ sets (now (out .entry)) 0 (lineTaken lines k f)) ⌝ }
+{
+    if lines {
+        return Line::of(f).write(k, out);
+    }
+    0
+}
+
 impl Desk {
     // A follower that starts lost with floor 0, before any packet.
-    pub fn new() -> Desk
-        ensures { λ r. ⌜ r ≡ fresh ⌝ }
+    pub fn new(lines: bool) -> Desk
+        ensures { λ r. ⌜ r ≡ fresh lines ⌝ }
     {
         Desk {
+            lines,
             packets: 0,
             follower: Follower::new(),
         }
     }
 
-    // One packet and its line.
+    // One packet and its line, if it has one.
     pub fn take(self, bytes: &[u8], out: &mut [u8; 128]) -> Taken
         ensures { λ r. ⌜ (r .desk ≡ takenBy self (now (bytes .entry))) × (r .written ≡ length (lineFor self (now (bytes .entry)))) × (now (out .exit) ≡ sets (now (out .entry)) 0 (lineFor self (now (bytes .entry)))) ⌝ }
     {
+        let lines = self.lines;
         let k = count(self.packets);
         let f = self.follower;
         match packet::read(bytes) {
             ReadPacket::Refused(n) => {
+                let told = write_refused(k, n, out);
                 return Taken {
                     desk: Desk {
+                        lines,
                         packets: k,
                         follower: f,
                     },
-                    written: write_refused(k, n, out),
+                    written: told,
                 };
             }
             ReadPacket::Packet(p) => {
                 let g = f.take(p);
                 return Taken {
                     desk: Desk {
+                        lines,
                         packets: k,
                         follower: g,
                     },
-                    written: Line::of(g).write(k, out),
+                    written: write_taken(lines, k, g, out),
                 };
             }
         }
     }
 
-    // The packet at the front of the input and its line, or the line of a length that is refused.
+    // The packet at the front of the input and its line, if it has one, or the line of a length that is refused.
     pub fn step(self, input: &[u8], out: &mut [u8; 128]) -> Step
         ensures { λ r. ⌜ (r .desk ≡ steppedDesk self (now (input .entry))) × (r .next ≡ steppedNext (now (input .entry))) × (r .written ≡ length (steppedBytes self (now (input .entry)))) × (now (out .exit) ≡ sets (now (out .entry)) 0 (steppedBytes self (now (input .entry)))) ⌝ }
     {
@@ -108,15 +125,18 @@ impl Desk {
                 };
             }
             Framed::Refused(n) => {
+                let lines = self.lines;
                 let k = count(self.packets);
                 let f = self.follower;
+                let line = write_refused(k, n, out);
                 return Step {
                     desk: Desk {
+                        lines,
                         packets: k,
                         follower: f,
                     },
                     next: Next::Stop,
-                    written: write_refused(k, n, out),
+                    written: line,
                 };
             }
             Framed::Frame { used, length } => {
