@@ -174,9 +174,9 @@ whole d w (s ∷ l) =
     let e = all (begin d w) s l in
     record {
       written =
-        ap ended e
-        ∙ (append-assoc w (q .written) (cond (q .more) (endBytes (q .desk) (q .kept)) [])
-        ∙ ap (λ (y : List ℕ). w ++ y) (at-once (length v) d v (omega arith)));
+          ap ended e
+          ∙ (append-assoc w (q .written) (cond (q .more) (endBytes (q .desk) (q .kept)) [])
+          ∙ ap (λ (y : List ℕ). w ++ y) (at-once (length v) d v (omega arith)));
       desk = ap (λ (t : Turn). t .desk) e ∙ desk-at-once (length v) d v;
     }
 

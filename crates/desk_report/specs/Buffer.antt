@@ -1,4 +1,4 @@
--- A buffer of 4,096 bytes in which lines are collected.
+-- A buffer in which lines are collected.
 use Prim.Native.Nat.{ℕ, _+_}
 use mathlib.Core.Bool.{cond}
 use mathlib.Core.List.{List}
@@ -8,4 +8,4 @@ use lib.Seq.{sets}
 
 -- a line from a place on, where it has room
 abbrev pub storedAt : List ℕ → ℕ → List ℕ → List ℕ
-storedAt b at line = cond (leb (at + length line) 4096) (sets b at line) b
+storedAt b at line = cond (leb (at + length line) (length b)) (sets b at line) b

@@ -12,6 +12,7 @@ use lib.ListN.{length, take, drop, length-append, length-drop, drop-of-length-le
 use lib.Seq.{sets, sets-eq, take-at, take-all, length-take-le, drop-drop}
 use borrow.Author.Tests.{le-leb, lt-leb}
 use Rattle.wire_framing.specs.Framing.{framed}
+use Rattle.desk_report.specs.Buffer.{storedAt}
 use Rattle.desk_report.specs.Desk.{steppedDesk, steppedBytes, steppedNext}
 use Rattle.desk_report.specs.Reads.{afterTake, taking, takeAll}
 use Rattle.desk_report.specs.declared.desk.Desk.{Desk}
@@ -31,19 +32,24 @@ stored-front o line l k e =
     let z : 0 + length line ≡ length line = zero-add (length line) in
     rw z at (stored o line l 0 (omega arith) e)
 
--- a line comes after the first `full` bytes of the buffer o
-module _ (o line l : List ℕ) (full : ℕ) (size : length o ≡ 4096) where
-  pub with-room : full + length line ≤ 4096 → l ≡ sets o full line → take (full + length line) l ≡ held (take full o) line
+-- a line comes after the first `full` bytes of the buffer o, or alone
+module _ (o line l : List ℕ) (full : ℕ) (size : length o ≡ 4096) (h : full ≤ 4096) where
+  before : length (take full o) ≡ full
+  before = length-take-le full o (omega arith)
+
+  pub with-room : full + length line ≤ 4096 → l ≡ storedAt o full line → take (full + length line) l ≡ held (take full o) line
   unfolding held
   with-room k e =
-      let z : length (take full o) ≡ full = length-take-le full o (omega arith) in
-      rw (z, le-leb (full + length line) 4096 k) (stored o line l full (omega arith) e)
+      let n : full + length line ≤ length o = omega arith in
+      let s : l ≡ sets o full line = rw (le-leb (full + length line) (length o) n) at e in
+      rw (before, le-leb (full + length line) 4096 k) (stored o line l full n s)
 
-  pub without-room : full ≤ 4096 → 4096 < full + length line → held (take full o) line ≡ line
+  pub without-room : 4096 < full + length line → length line ≤ 4096 → l ≡ storedAt o 0 line → take (length line) l ≡ held (take full o) line
   unfolding held
-  without-room h k =
-      let z : length (take full o) ≡ full = length-take-le full o (omega arith) in
-      rw (z, lt-leb (full + length line) 4096 k)
+  without-room k m e =
+      let n : 0 + length line ≤ length o = omega arith in
+      let s : l ≡ sets o 0 line = rw (le-leb (0 + length line) (length o) n) at e in
+      rw (before, lt-leb (full + length line) 4096 k) (stored-front o line l (omega arith) s)
 
 -- after some turns of `take_all` from the desk d₀: the desk d, the place u of the bytes s, the bytes b in the buffer
 abbrev pub Holds : Desk → List ℕ → Desk → ℕ → List ℕ → Type 0

@@ -8,7 +8,7 @@ use desk_report::desk::Desk;
 use libc::STDIN_FILENO;
 ghost use mathlib.Core.Path.{_≡_};
 ghost use Prim.Native.Nat.{_-_, _≤_, _<_};
-ghost use lib.ListN.{take};
+ghost use lib.ListN.{length, take};
 ghost use Rattle.desk_stream.specs.Ran.{Ends};
 ghost use Rattle.desk_stream.specs.Took.{Took, Read, moved};
 
@@ -31,8 +31,8 @@ fn stop(desk: Desk, end: End) -> Turn
 }
 
 // Moves the bytes from..to to the front and returns how many there are.
-fn keep(input: &mut [u8; 4096], from: usize, to: usize) -> usize
-    requires { ⌜ (from ≤ to) × (to ≤ 4096) ⌝ }
+fn keep(input: &mut [u8], from: usize, to: usize) -> usize
+    requires { ⌜ (from ≤ to) × (to ≤ length (now input)) ⌝ }
     ensures { λ r. ⌜ (r ≡ to - from) × (now (input .exit) ≡ moved from to (now (input .entry))) ⌝ }
 {
     let n = to - from;
@@ -45,9 +45,9 @@ fn keep(input: &mut [u8; 4096], from: usize, to: usize) -> usize
 }
 
 // Takes what the first `to` bytes hold, writes the lines, and keeps the bytes of a packet that is not whole yet.
-fn take_front(desk: Desk, sink: Sink, input: &mut [u8; 4096], to: usize, buffer: &mut [u8; 4096]) -> Turn
-    requires { ⌜ to ≤ 4096 ⌝ }
-    ensures { λ r. ⌜ (r .have ≤ 68) × Took desk sink (take to (now (input .entry))) (r .desk) (take (r .have) (now (input .exit))) (r .go) ⌝ }
+fn take_front(desk: Desk, sink: Sink, input: &mut [u8], to: usize, buffer: &mut [u8; 4096]) -> Turn
+    requires { ⌜ to ≤ length (now input) ⌝ }
+    ensures { λ r. ⌜ (r .have ≤ 68) × (length (now (input .exit)) ≡ length (now (input .entry))) × Took desk sink (take to (now (input .entry))) (r .desk) (take (r .have) (now (input .exit))) (r .go) ⌝ }
 {
     let ran = take_all(desk, sink, &input[..to], buffer);
     let after = ran.desk;
@@ -83,9 +83,15 @@ fn finish(desk: Desk, sink: Sink, rest: &[u8]) -> End
 }
 
 // Reads once, after the first `have` bytes, where there is room, and takes what is there.
-pub(crate) fn read_on(desk: Desk, sink: Sink, input: &mut [u8; 4096], have: usize, buffer: &mut [u8; 4096]) -> Turn
-    requires { ⌜ have < 4096 ⌝ }
-    ensures { λ r. ⌜ (r .have ≤ 68) × Read desk sink (take have (now (input .entry))) (r .desk) (take (r .have) (now (input .exit))) (r .go) ⌝ }
+pub(crate) fn read_on(
+    desk: Desk,
+    sink: Sink,
+    input: &mut [u8],
+    have: usize,
+    buffer: &mut [u8; 4096],
+) -> Turn
+    requires { ⌜ have < length (now input) ⌝ }
+    ensures { λ r. ⌜ (r .have ≤ 68) × (length (now (input .exit)) ≡ length (now (input .entry))) × Read desk sink (take have (now (input .entry))) (r .desk) (take (r .have) (now (input .exit))) (r .go) ⌝ }
 {
     let got = libc::read(STDIN_FILENO, &mut input[have..]);
     if got < 0 {

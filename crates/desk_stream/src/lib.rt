@@ -10,6 +10,8 @@ use crate::sink::Sink;
 use crate::take::Go;
 use desk_report::desk::Desk;
 ghost use mathlib.Core.Path.{_≡_};
+ghost use Prim.Native.Nat.{_<_};
+ghost use lib.ListN.{length};
 ghost use Rattle.desk_stream.specs.Ran.{Seen, endedBy, Ends};
 
 // Why a run has ended.
@@ -28,35 +30,35 @@ pub struct Ended {
 }
 
 // A proved loop has to end: it counts its turns down, from a number that no run uses up.
-fn turns(desk: Desk, sink: Sink, input: &mut [u8; 4096], buffer: &mut [u8; 4096]) -> Ended
+fn turns(mut desk: Desk, sink: Sink, input: &mut [u8], buffer: &mut [u8; 4096]) -> Ended
+    requires { ⌜ 68 < length (now input) ⌝ }
     ensures { λ r. ⌜ ((w : Seen) × (r ≡ endedBy desk w)) × Ends sink (r .end) ⌝ }
 {
-    let mut now = desk;
     let mut have: usize = 0;
-    let mut left: u64 = 18446744073709551615;
-    while 0 < left {
-        let turn = read_on(now, sink, input, have, buffer);
-        now = turn.desk;
+    let mut rest: u64 = 18446744073709551615;
+    while 0 < rest {
+        let turn = read_on(desk, sink, input, have, buffer);
+        desk = turn.desk;
         let go = turn.go;
         match go {
             Go::On => {
                 have = turn.have;
-                left -= 1;
+                rest -= 1;
             }
             Go::Off(end) => {
-                return Ended { desk: now, end };
+                return Ended { desk, end };
             }
         }
     }
     Ended {
-        desk: now,
+        desk,
         end: End::Unread,
     }
 }
 
 // Reads to the end, from this desk on. Where lines could not be written, the desk is the one before the read that gave them.
 pub fn run(desk: Desk, sink: Sink) -> Ended
-    ensures { λ r. ⌜ (w : Seen) × (r ≡ endedBy desk w) ⌝ }
+    ensures { λ r. ⌜ ((w : Seen) × (r ≡ endedBy desk w)) ⌝ }
     ensures { λ r. ⌜ Ends sink (r .end) ⌝ }
 {
     let mut input = [0u8; 4096];

@@ -24,11 +24,13 @@ pub(crate) fn write_out(sink: Sink, buffer: &[u8], full: usize) -> bool
     requires { ⌜ full ≤ length (now buffer) ⌝ }
     ensures { λ r. ⌜ Goes sink r ⌝ }
 {
-    let needed = sink.needed;
     if io::write_all(sink.fd, &buffer[..full]) {
         return true;
     }
-    !needed
+    if sink.needed {
+        return false;
+    }
+    true
 }
 
 // Adds a line to the buffer. Where it has no room, what stands there is written out first.

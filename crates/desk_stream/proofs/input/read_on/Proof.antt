@@ -1,5 +1,6 @@
 -- The bytes that are left are within the buffer.
-use mathlib.Core.Path.{sym}
+use mathlib.Core.Path.{refl, sym}
+use mathlib.Core.Logic.{inl}
 use Prim.Native.Nat.{_≤_}
 use native.Mathlib.Omega.{arith}
 use lib.ListN.{length, take}
@@ -22,12 +23,6 @@ part-read-end c = search needs
 read-requires : tie.Need-read-requires
 read-requires c κs = search needs
 
-slice-aggregate-write-all : tie.Need-slice-aggregate-write-all
-slice-aggregate-write-all c = search needs
-
-write-all-requires : tie.Need-write-all-requires
-write-all-requires c κs = search needs
-
 stop-requires : tie.Need-stop-requires
 stop-requires c κs = search needs
 
@@ -35,7 +30,7 @@ same-length : tie.Need-same-length
 same-length c = search needs
 
 returns : tie.Need-returns
-returns c = rw (c .stop .ensures .2, c .stop .ensures .1) (omega arith, search needs, tt)
+returns c = rw (c .stop .ensures .2, c .stop .ensures .0, c .stop .ensures .1) (omega arith, search needs, (tt, inl refl))
 
 sub-count : tie.Need-sub-count
 sub-count c = search needs
@@ -49,14 +44,14 @@ part-count-end c = search needs
 count-requires : tie.Need-count-requires
 count-requires c κs = search needs
 
-slice-reshare-prefix-end : tie.Need-slice-reshare-prefix-end
-slice-reshare-prefix-end c = search needs
+slice-reshare-prefix-finish : tie.Need-slice-reshare-prefix-finish
+slice-reshare-prefix-finish c = search needs
 
-slice-aggregate-end : tie.Need-slice-aggregate-end
-slice-aggregate-end c = sym (length-take-le _ _ (search needs))
+slice-aggregate-finish : tie.Need-slice-aggregate-finish
+slice-aggregate-finish c = sym (length-take-le _ _ (search needs))
 
-end-requires : tie.Need-end-requires
-end-requires c κs = search needs
+finish-requires : tie.Need-finish-requires
+finish-requires c κs = search needs
 
 stop-requires-2 : tie.Need-stop-requires-2
 stop-requires-2 c κs = search needs
@@ -65,7 +60,7 @@ same-length-2 : tie.Need-same-length-2
 same-length-2 c = search needs
 
 returns-2 : tie.Need-returns-2
-returns-2 c = rw (c .stop2 .ensures .2, c .stop2 .ensures .1) (omega arith, search needs, tt)
+returns-2 c = rw (c .stop2 .ensures .2, c .stop2 .ensures .0, c .stop2 .ensures .1) (omega arith, search needs, (c .before .finish .ensures, inl refl))
 
 add-take-front : tie.Need-add-take-front
 add-take-front c = search needs
@@ -81,7 +76,8 @@ returns-3 c =
     let x = c .before .before .before .before .before .before .before .before .before .before .before .before .before .before .before .args in
     let t = c .before .before .take-front in
     let h : x .have ≤ length (now (x .input)) = omega (arith, c .before .before .before .before .before .before .before .before .before .before .before .before .before .before .before .pre) in
-    (t .ensures .0, search needs, read-after (x .desk) (t .result .desk) (now (x .input)) _ (x .have) _ _ (t .result .go) (t .ensures .2) (take-at (take (x .have) (now (x .input))) _ (x .have) (length-take-le (x .have) (now (x .input)) h)))
+    let z = take-at (take (x .have) (now (x .input))) _ (x .have) (length-take-le (x .have) (now (x .input)) h) in
+    (t .ensures .0, same-length-3 c, read-after (x .desk) (t .result .desk) (x .sink) (now (x .input)) _ (x .have) _ _ (t .result .go) (t .ensures .2) z)
 
 pub read-on-spec : {M : Type 1} → statement M
 read-on-spec =
@@ -91,8 +87,6 @@ read-on-spec =
     part-read-start
     part-read-end
     read-requires
-    slice-aggregate-write-all
-    write-all-requires
     stop-requires
     same-length
     returns
@@ -100,9 +94,9 @@ read-on-spec =
     part-count-start
     part-count-end
     count-requires
-    slice-reshare-prefix-end
-    slice-aggregate-end
-    end-requires
+    slice-reshare-prefix-finish
+    slice-aggregate-finish
+    finish-requires
     stop-requires-2
     same-length-2
     returns-2

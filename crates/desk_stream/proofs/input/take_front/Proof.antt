@@ -7,6 +7,7 @@ use lib.ListN.{length}
 use lib.Seq.{length-take-le}
 use Rattle.desk_stream.proofs.Moves.{moved-length}
 use Rattle.desk_stream.proofs.Takes.{kept-front}
+use borrow.Author.Tests.{not-true}
 use borrow.Author.Needs.{needs}
 use Rattle.desk_stream.proofs.input.take_front.Statement.{statement}
 use Rattle.desk_stream.proofs.input.take_front.Tie as tie
@@ -23,14 +24,17 @@ take-all-requires c κs = search needs
 write-out-requires : tie.Need-write-out-requires
 write-out-requires c κs = search needs
 
-fail-requires : tie.Need-fail-requires
-fail-requires c κs = search needs
+stop-requires : tie.Need-stop-requires
+stop-requires c κs = search needs
 
 same-length : tie.Need-same-length
 same-length c = search needs
 
 returns : tie.Need-returns
-returns c = rw (c .fail .ensures .2, c .fail .ensures .1) (omega arith, refl, tt)
+returns c =
+    let w = c .before .before .write-out in
+    let n = rw (not-true (w .result) (c .before .if1 .taken)) at (w .ensures) in
+    rw (c .stop .ensures .2, c .stop .ensures .0, c .stop .ensures .1) (omega arith, refl, (n, refl))
 
 enum-told : tie.Need-enum-told
 enum-told c = search needs
@@ -60,32 +64,20 @@ returns-2 c =
     let t = rw (c .before .before .before .before .enum-told .given .1) at (r .ensures .2) in
     kept-front (x .desk) (r .result .desk) (now (x .input)) (k .last .0) (r .result .used) (x .to) (k .result) f h t (k .ensures .0) (k .ensures .1)
 
-enum-told-2 : tie.Need-enum-told-2
-enum-told-2 c = search needs
+enum-known-go : tie.Need-enum-known-go
+enum-known-go c = search needs
 
-stop-requires : tie.Need-stop-requires
-stop-requires c κs = search needs
+stop-requires-2 : tie.Need-stop-requires-2
+stop-requires-2 c κs = search needs
 
 same-length-3 : tie.Need-same-length-3
 same-length-3 c = search needs
 
 returns-3 : tie.Need-returns-3
 returns-3 c =
-    let r = c .before .before .before .before .before .before .before .before .take-all in
-    let t = rw (c .before .enum-told2 .given .1) at (r .ensures .2) in
-    rw (c .stop .ensures .2, c .stop .ensures .0, c .stop .ensures .1) (omega arith, refl, t)
-
-enum-told-3 : tie.Need-enum-told-3
-enum-told-3 c = search needs
-
-fail-requires-2 : tie.Need-fail-requires-2
-fail-requires-2 c κs = search needs
-
-same-length-4 : tie.Need-same-length-4
-same-length-4 c = search needs
-
-returns-4 : tie.Need-returns-4
-returns-4 c = rw (c .fail2 .ensures .2, c .fail2 .ensures .1) (omega arith, refl, tt)
+    let r = c .before .before .before .before .before .before .before .before .before .take-all in
+    let t = rw (c .before .before .go .given .1) at (r .ensures .2) in
+    rw (c .stop2 .ensures .2, c .stop2 .ensures .0, c .stop2 .ensures .1) (omega arith, refl, t)
 
 pub take-front-spec : {M : Type 1} → statement M
 take-front-spec =
@@ -95,18 +87,14 @@ take-front-spec =
     slice-aggregate-take-all
     take-all-requires
     write-out-requires
-    fail-requires
+    stop-requires
     same-length
     returns
     enum-told
     keep-requires
     same-length-2
     returns-2
-    enum-told-2
-    stop-requires
+    enum-known-go
+    stop-requires-2
     same-length-3
-    returns-3
-    enum-told-3
-    fail-requires-2
-    same-length-4
-    returns-4)
+    returns-3)

@@ -43,7 +43,7 @@ returns c =
     let z : take (w .result .written) (w .last .1 .1 .0) ≡ b =
     rw (w .ensures .2) (stored-front (replicate 128 0) b (w .last .1 .1 .0) (omega (arith, step-length (x .desk) (now (x .input)))) (w .ensures .3))
     in
-    (w .ensures .0, w .ensures .1, c .add .ensures .0, rw z at (c .add .ensures .1))
+    (w .ensures .0, w .ensures .1, c .add .ensures .0, rw z at (c .add .ensures .1), c .add .ensures .2)
 
 pub take-one-spec : {M : Type 1} → statement M
 take-one-spec =

@@ -5,8 +5,8 @@ use lib.ListN.{replicate}
 use Rattle.desk_report.specs.Text.{header}
 use Rattle.desk_report.proofs.Lengths.{in-buffer}
 use borrow.Author.Needs.{needs}
-use Rattle.follow.proofs.follow.Statement.{statement}
-use Rattle.follow.proofs.follow.Tie as tie
+use Rattle.follow.proofs.write_header.Statement.{statement}
+use Rattle.follow.proofs.write_header.Tie as tie
 
 write-header-requires : tie.Need-write-header-requires
 write-header-requires c κs = search needs
@@ -22,31 +22,15 @@ slice-aggregate-write-all c = search needs
 write-all-requires : tie.Need-write-all-requires
 write-all-requires c κs = search needs
 
-unwritten-requires : tie.Need-unwritten-requires
-unwritten-requires c κs = search needs
-
 returns : tie.Need-returns
 returns c = search needs
 
-slice-aggregate-run : tie.Need-slice-aggregate-run
-slice-aggregate-run c = search needs
-
-run-requires : tie.Need-run-requires
-run-requires c κs = search needs
-
-returns-2 : tie.Need-returns-2
-returns-2 c = search needs
-
-pub follow-spec : {M : Type 1} → statement M
-follow-spec =
+pub write-header-spec : {M : Type 1} → statement M
+write-header-spec =
     tie.close
     (tie.spec
     write-header-requires
     array-share-prefix-line
     slice-aggregate-write-all
     write-all-requires
-    unwritten-requires
-    returns
-    slice-aggregate-run
-    run-requires
-    returns-2)
+    returns)
