@@ -1,5 +1,6 @@
 /* A console of three ports and two chargers, and a desk that follows it: a supply is attached and chosen, a device is provided,
- * and the supply is detached while a charger does not answer. Prints what rust/power_policy/examples/event.rs prints. */
+ * and the supply is detached while a charger does not answer. Last comes the desk's page. Prints what
+ * rust/power_policy/examples/event.rs prints. */
 #include <stdio.h>
 #include <stdlib.h>
 
@@ -143,6 +144,14 @@ static void take_picture(void)
     take("picture", buffer, power_policy_written_length(written));
 }
 
+static void print_page(void)
+{
+    uint8_t page[POWER_POLICY_PAGE];
+
+    check(power_policy_follower_write_page(follower, sizeof follower, page, sizeof page));
+    fwrite(page, 1, sizeof page, stdout);
+}
+
 /* The present records, as bytes. */
 static uint8_t psu_records[PORTS * POWER_POLICY_PSU_RECORD];
 static uint8_t charger_records[CHARGERS * POWER_POLICY_CHARGER_RECORD];
@@ -217,5 +226,6 @@ int main(void)
     deaf = 1;
     run_event("port 1 detached, chargers deaf", POWER_POLICY_EVENT_DETACHED, 1);
     take_picture();
+    print_page();
     return 0;
 }

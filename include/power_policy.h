@@ -20,8 +20,8 @@ extern "C" {
 
 /* The version of this header, of the archive that it goes with and of the Rust crate; the number is 10000 x major + 100 x minor + patch.
  * While the major is 0, a new minor may change a function or an image. */
-#define POWER_POLICY_VERSION "0.1.0"
-#define POWER_POLICY_VERSION_NUMBER 100
+#define POWER_POLICY_VERSION "0.2.0"
+#define POWER_POLICY_VERSION_NUMBER 200
 
 /* Lengths in bytes. */
 #define POWER_POLICY_IMAGE 67            /* a service's image */
@@ -29,6 +29,7 @@ extern "C" {
 #define POWER_POLICY_PSU_RECORD 18       /* the record of one port */
 #define POWER_POLICY_CHARGER_RECORD 7    /* the record of one charger */
 #define POWER_POLICY_BUFFER 64           /* the least buffer for a packet or picture */
+#define POWER_POLICY_PAGE 246            /* a follower's page, and the least buffer for it */
 
 /* At most so many can be registered. */
 #define POWER_POLICY_PORTS 16
@@ -132,7 +133,7 @@ enum {
 };
 
 /* Refusals: byte 1 of a refused result; power_policy_refusal_text has them in words. Of 20 to 29 the lowest that applies is given, of
- * 30 to 33 the one met first from the left. */
+ * 30 to 33 the one met first from the left; 34 is looked at after them. */
 enum {
     POWER_POLICY_REFUSED_CONFIGURATION = 20, /**< over 16 ports or 8 chargers, a configuration figure over its type, a presence above 1 */
     POWER_POLICY_REFUSED_IMAGE = 21,         /**< bytes that are no state's image */
@@ -147,7 +148,8 @@ enum {
     POWER_POLICY_REFUSED_CUT_SHORT = 30,     /**< a packet that is cut short or empty */
     POWER_POLICY_REFUSED_NUMBER = 31,        /**< a number that is not in its shortest form or over its limit */
     POWER_POLICY_REFUSED_FIELD = 32,         /**< a kind or field that is not as laid out */
-    POWER_POLICY_REFUSED_LEFT_OVER = 33      /**< bytes after the packet's end */
+    POWER_POLICY_REFUSED_LEFT_OVER = 33,     /**< bytes after the packet's end */
+    POWER_POLICY_REFUSED_PAGE = 34           /**< a buffer under 246 bytes for a page */
 };
 
 /* States of a follower: byte 1 of a shown result. */
@@ -198,6 +200,11 @@ uint64_t power_policy_follower_consumer(const uint8_t *image, size_t image_len);
 
 /** The tracked ports shown, none if lost. Tracked, or refused: 21. */
 uint64_t power_policy_follower_tracked(const uint8_t *image, size_t image_len);
+
+/** Writes the page of what is shown, POWER_POLICY_PAGE bytes; bytes of the buffer past it stay. A page is text without a 0 at its end: six
+ * lines (number, state, port, millivolts, milliamps, tracked ports) of 40 columns and a newline each, the name left in 20 columns, the
+ * figure right in 20, a hyphen for what is not there. Lost, all but the state is a hyphen. Written, or refused: 21, 34. */
+uint64_t power_policy_follower_write_page(const uint8_t *image, size_t image_len, uint8_t *buffer, size_t buffer_len);
 
 /* Configurations. */
 
@@ -392,7 +399,7 @@ static inline unsigned power_policy_outcome(uint64_t result)
     return power_policy_byte(result, 0);
 }
 
-/** The number of a refusal, 20 to 33, a POWER_POLICY_REFUSED_; 0 if the result is not refused. */
+/** The number of a refusal, 20 to 34, a POWER_POLICY_REFUSED_; 0 if the result is not refused. */
 static inline unsigned power_policy_refusal(uint64_t result)
 {
     return power_policy_outcome(result) == POWER_POLICY_OUTCOME_REFUSED ? power_policy_byte(result, 1) : 0;
@@ -419,6 +426,7 @@ static inline const char *power_policy_refusal_text(unsigned refusal)
     case POWER_POLICY_REFUSED_NUMBER: return "a number that is not in its shortest form or over its limit";
     case POWER_POLICY_REFUSED_FIELD: return "a kind or field that is not as laid out";
     case POWER_POLICY_REFUSED_LEFT_OVER: return "bytes after the packet's end";
+    case POWER_POLICY_REFUSED_PAGE: return "a buffer under 246 bytes for a page";
     default: return "unknown refusal";
     }
 }

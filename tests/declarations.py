@@ -280,6 +280,7 @@ def numbers(texts):
 LIMITS = {
     "LARGEST": "largest", "MAX_PORTS": "maxPorts", "MAX_CHARGERS": "maxChargers", "MAX_ORDERS": "maxOrders", "MAX_NOTICES": "maxNotices", "WINDOW": "window",
     "PSU_RECORD": "psuLength", "CHARGER_RECORD": "chargerLength", "SERVICE_IMAGE": "serviceLength", "FOLLOWER_IMAGE": "followerLength", "BUFFER": "bufferLength",
+    "PAGE": "pageLength",
 }
 
 
@@ -291,7 +292,7 @@ def limits(texts):
     if defined != {LIMITS.get(name, name): value for name, value in code.items()} or set(code) != set(LIMITS):
         found.append(f"lengths and limits: the definitions {defined}, the code {code}")
     in_header = {name: value for name, value in numbers(texts)[0].items() if name in code}
-    if len(in_header) != 7 or any(code[name] != value for name, value in in_header.items()):
+    if len(in_header) != 8 or any(code[name] != value for name, value in in_header.items()):
         found.append(f"lengths and limits: the header {in_header}, the code {code}")
     return found
 
@@ -314,7 +315,7 @@ def differing(texts):
     if any(len(values) != 1 or values != version["the header"] for values in version.values()):
         found.append(f"version: {version}")
     in_header, in_rust = words(texts)
-    if in_header != in_rust or len(in_header) != 14:
+    if in_header != in_rust or len(in_header) != 15:
         found.append(f"refusals in words: the header {in_header}, the Rust crate {in_rust}")
     try:
         configured = configurations(texts)
@@ -355,7 +356,7 @@ def differences(texts):
     if state(texts["state"]) != sorted(first):
         found.append(f"docs/STATE.md has {state(texts['state'])}, the header {sorted(first)}")
     in_header, in_rust = numbers(texts)
-    if in_header != in_rust or len(in_header) != 22:
+    if in_header != in_rust or len(in_header) != 24:
         found.append(f"numbers: the header {in_header}, the Rust crate {in_rust}")
     found += differing(texts) + limits(texts)
     millis = waits(texts)
@@ -377,6 +378,7 @@ def changes(texts):
 
     for place in ("rattle", "header", "ffi"):
         yield from change(place, "power_policy_follower_shown", "power_policy_follower_show")
+        yield from change(place, "power_policy_follower_write_page", "power_policy_follower_page")
         yield from change(place, "unlimited_mv", "unlimited_mw")
         yield from change(place, "detail", "reason")
         for one, other in (("unlimited_mv", "limited_mv"), ("kind", "device"), ("ports", "chargers")):
@@ -396,25 +398,35 @@ def changes(texts):
         ("header", "size_t buffer_len", "uint32_t buffer_len"),
         ("header", "uint64_t power_policy_order(", "uint32_t power_policy_order("),
         ("header", "POWER_POLICY_IMAGE 67", "POWER_POLICY_IMAGE 66"),
+        ("header", "POWER_POLICY_PAGE 246", "POWER_POLICY_PAGE 245"),
+        ("crate", "PAGE: usize = 246", "PAGE: usize = 247"),
         ("header", "POWER_POLICY_REFUSED_BUFFER = 29", "POWER_POLICY_REFUSED_BUFFER = 28"),
+        ("header", "POWER_POLICY_REFUSED_PAGE = 34", "POWER_POLICY_REFUSED_PAGE = 35"),
+        ("reply", "    Page = 34", "    Page = 29"),
         ("limits", "SERVICE_IMAGE: usize = 67", "SERVICE_IMAGE: usize = 68"),
         ("limits", "MAX_ORDERS: u8 = 35", "MAX_ORDER: u8 = 35"),
+        ("limits", "PAGE: usize = 246", "PAGE: usize = 245"),
         ("defined limits", "window = 8", "window = 9"),
+        ("defined limits", "pageLength = 246", "pageLength = 247"),
         ("defined limits", "followerLength = 241", "followersLength = 241"),
         ("ffi", "threshold_mw: u64", "threshold_mw: u32"),
         ("ffi", "packet: *const u8", "packet: *mut u8"),
         ("ffi", "            kind,\n            device,\n", "            device,\n            kind,\n"),
+        ("ffi", "write_page(\n            image.as_ptr(),\n", "write_page(\n            buffer.as_ptr(),\n"),
         ("state", "| `power_policy_order` |", "| `power_policy_orders` |"),
+        ("state", "| `power_policy_follower_write_page` |", "| `power_policy_follower_page` |"),
         ("header", "POWER_POLICY_WAIT_MS 800", "POWER_POLICY_WAIT_MS 801"),
         ("crate", "WAIT_MILLIS: u64 = 800", "WAIT_MILLIS: u64 = 8000"),
         ("definition", "waitMs = 800", "waitMs = 80"),
         ("definition", "waitMs = 800", "waitsMs = 800"),
         ("definition", "waitMs = 800", "waitMs = 800\nwaitMs = 800"),
         ("header", 'POWER_POLICY_VERSION "0.', 'POWER_POLICY_VERSION "9.'),
-        ("header", "POWER_POLICY_VERSION_NUMBER 1", "POWER_POLICY_VERSION_NUMBER 2"),
+        ("header", "POWER_POLICY_VERSION_NUMBER ", "POWER_POLICY_VERSION_NUMBER 9"),
         ("cargo", '\nversion = "0.', '\nversion = "9.'),
         ("header", '"an event is open"', '"no event is open"'),
         ("reply", '"an event is open"', '"no event is open"'),
+        ("header", '"a buffer under 246 bytes for a page"', '"a buffer under 246 bytes"'),
+        ("reply", '"a buffer under 246 bytes for a page"', '"a buffer under 245 bytes for a page"'),
         ("header", "case POWER_POLICY_REFUSED_OPEN:", "case POWER_POLICY_REFUSED_NO_ORDER:"),
         ("reply", "Self::Open =>", "Self::NoOrder =>"),
         ("header", "RUST_DEFAULT {15000, 5000, 3000,", "RUST_DEFAULT {15000, 3000, 5000,"),
@@ -434,14 +446,15 @@ def changes(texts):
         ("numbers", "const WAIT_MS: u16 = 800", "// const WAIT_MS: u16 = 800"),
     ):
         yield from change(place, old, new)
-    both = dict(texts)
-    for place in ("header", "crate"):
-        both[place] = texts[place].replace(" 800", " 801")
-    yield "header and crate: a wait of 801 milliseconds", both
-    both = dict(texts)
-    for place in ("header", "crate"):
-        both[place] = re.sub(r"(IMAGE(?:: usize =)?) 67", r"\1 68", texts[place])
-    yield "header and crate: an image of 68 bytes", both
+    for what, old, new in (
+        ("a wait of 801 milliseconds", " 800", " 801"),
+        ("an image of 68 bytes", r"(IMAGE(?:: usize =)?) 67", r"\1 68"),
+        ("a page of 245 bytes", r"(PAGE(?:: usize =)?) 246", r"\1 245"),
+    ):
+        both = dict(texts)
+        for place in ("header", "crate"):
+            both[place] = re.sub(old, new, texts[place])
+        yield f"header and crate: {what}", both
 
 
 def main():

@@ -1,5 +1,5 @@
-/* What the inline functions of include/power_policy.h do, beside the archive: configurations, records, refusals in words, the parts of a
- * result. Compiled as C99, C11 and C++ with every warning an error (tests/examples.sh). Prints what does not hold. */
+/* What the inline functions of include/power_policy.h do, beside the archive: configurations, records, refusals in words, a page, the
+ * parts of a result. Compiled as C99, C11 and C++ with every warning an error (tests/examples.sh). Prints what does not hold. */
 #include <stdio.h>
 #include <string.h>
 
@@ -134,7 +134,7 @@ static void refusals(void)
 {
     unsigned number, other;
 
-    for (number = 20; number <= 33; number++) {
+    for (number = 20; number <= 34; number++) {
         expect(strcmp(power_policy_refusal_text(number), power_policy_refusal_text(19)) != 0, "each refusal has words");
         for (other = 20; other < number; other++)
             expect(strcmp(power_policy_refusal_text(number), power_policy_refusal_text(other)) != 0, "each has its own");
@@ -144,6 +144,25 @@ static void refusals(void)
     expect(strcmp(power_policy_refusal_text(19), "unknown refusal") == 0, "19 is no refusal");
     expect(strcmp(power_policy_refusal_text(255), "unknown refusal") == 0, "255 is no refusal");
     expect(power_policy_refusal(0x1902) == 0, "a close with byte 1 at 25 is not refused");
+}
+
+/* The page of a fresh follower, whole and in a buffer that is too short. */
+static void pages(void)
+{
+    const char state[] = "state                               lost\n";
+    uint8_t image[POWER_POLICY_FOLLOWER_IMAGE];
+    uint8_t page[POWER_POLICY_PAGE];
+    uint64_t result;
+
+    power_policy_follower_start(image, sizeof image);
+    result = power_policy_follower_write_page(image, sizeof image, page, sizeof page - 1);
+    expect(power_policy_refusal(result) == POWER_POLICY_REFUSED_PAGE, "a buffer of 245 bytes is 34");
+    result = power_policy_follower_write_page(image, sizeof image - 1, page, sizeof page - 1);
+    expect(power_policy_refusal(result) == POWER_POLICY_REFUSED_IMAGE, "no image is 21, whatever the buffer");
+    result = power_policy_follower_write_page(image, sizeof image, page, sizeof page);
+    expect(power_policy_outcome(result) == POWER_POLICY_OUTCOME_WRITTEN, "a page is written");
+    expect(power_policy_written_length(result) == POWER_POLICY_PAGE, "the length of a page");
+    expect(memcmp(page + 41, state, sizeof state - 1) == 0, "the second line of a lost follower");
 }
 
 static void parts(void)
@@ -173,6 +192,7 @@ int main(void)
     bytes_of_records();
     accepted_records();
     refusals();
+    pages();
     parts();
     return wrong;
 }

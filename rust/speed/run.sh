@@ -37,4 +37,4 @@ kept() { # WHAT FUNCTION..
 }
 sizes "the archive" "$lib/libpower_policy.a"
 kept "the service alone" start open answer order write_packet write_picture
-kept "the follower alone" follower_start follower_take follower_shown follower_consumer follower_tracked
+kept "the follower alone" follower_start follower_take follower_shown follower_consumer follower_tracked follower_write_page

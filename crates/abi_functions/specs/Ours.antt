@@ -3,7 +3,7 @@
 use Rattle.abstract_calls.specs.Functions.{Functions, configOf}
 use Rattle.bytes_service_image.specs.Image.{serviceFrom}
 use Rattle.bytes_follower_image.specs.Image.{followerFrom}
-use Rattle.bytes_calls.specs.Calls.{startCall, openCall, answerCall, orderCall, writePacketCall, writePictureCall, followerStartCall, takeCall, shownCall, consumerCall, trackedCall}
+use Rattle.bytes_calls.specs.Calls.{startCall, openCall, answerCall, orderCall, writePacketCall, writePictureCall, followerStartCall, takeCall, shownCall, consumerCall, trackedCall, writePageCall}
 
 abbrev pub functions : Functions
 functions = record {
@@ -18,4 +18,5 @@ functions = record {
   shown = λ image. shownCall (followerFrom image);
   consumer = λ image. consumerCall (followerFrom image);
   tracked = λ image. trackedCall (followerFrom image);
+  write-page = λ image buffer. writePageCall (followerFrom image) buffer;
 }

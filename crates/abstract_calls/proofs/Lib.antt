@@ -1,4 +1,5 @@
 pub mod Results
 pub mod OneToOne
 pub mod Packets
+pub mod Pages
 pub mod Lists

@@ -2,14 +2,17 @@
 use Prim.Native.Nat.{ℕ}
 use mathlib.Core.Bool.{Bool, false}
 use mathlib.Core.List.{List, [], _∷_}
-use lib.Dec.{eqb}
+use lib.Dec.{eqb, ltb}
+use lib.ListN.{length}
+use Rattle.power_policy_interface.specs.Limits.{pageLength}
 use Rattle.interface_display.specs.Providers.{none}
 use Rattle.interface_display.specs.declared.OptionAvailableConsumer.{OptionAvailableConsumer}
 use Rattle.wire.specs.Read.{readPacket}
 use Rattle.wire.specs.declared.packet.ReadPacket.{ReadPacket}
 use Rattle.abstract_desk.specs.Follower.{Follower, lost, showing, state}
 use Rattle.abstract_calls.specs.Functions.{Functions}
-use Rattle.abstract_calls.specs.Lent.{takeTo}
+use Rattle.abstract_page.specs.Page.{pageOf}
+use Rattle.abstract_calls.specs.Lent.{takeTo, pageCall}
 use Rattle.abstract_calls.specs.Numbers.{lostNumber, shownNumber, consumerNumber, trackedNumber}
 
 pub record FollowerCall : Type 0 where
@@ -74,13 +77,32 @@ reading number returns = record {
   leaves = λ p. [];
 }
 
+-- REF-34, S1-9: a page is wanted, and the buffer is under 246 bytes
+abbrev pub pageConditions : List ℕ → List (Bool × ℕ)
+pageConditions buffer = (ltb (length buffer) pageLength, 34) ∷ []
+
+-- it writes the page into a buffer
+abbrev pub writing : List ℕ → FollowerCall
+writing buffer = record {
+  image = λ f b. b;
+  number = λ f b. f .write-page b buffer .number;
+  buffer = buffer;
+  buffer-after = λ f b. f .write-page b buffer .bytes;
+  packets = [];
+  conditions = λ p. pageConditions buffer;
+  returns = λ p. pageCall (pageOf p) buffer .number;
+  leaves = λ p. pageCall (pageOf p) buffer .bytes;
+}
+
 -- a call on a follower's image, with all its arguments
 pub data DeskCall : Type 0 where
   takePacket : List ℕ → DeskCall
   readShown readConsumer readTracked : DeskCall
+  writePage : List ℕ → DeskCall
 
 abbrev pub deskCall : DeskCall → FollowerCall
 deskCall (takePacket y) = taking y
 deskCall readShown = reading (λ f b. f .shown b) shownBy
 deskCall readConsumer = reading (λ f b. f .consumer b) consumerBy
 deskCall readTracked = reading (λ f b. f .tracked b) trackedBy
+deskCall (writePage buffer) = writing buffer

@@ -58,3 +58,5 @@ pub record Functions : Type 0 where
   pub shown : List ℕ → ℕ
   pub consumer : List ℕ → ℕ
   pub tracked : List ℕ → ℕ
+  -- image, read only; buffer
+  pub write-page : List ℕ → List ℕ → Called

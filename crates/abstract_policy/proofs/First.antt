@@ -78,7 +78,7 @@ place-from (x ∷ l) k a n f lo hi = go (eqb x n) refl (λ lower upper. place-fr
 
 base-rank : (n : ℕ) → Base n → rank n + 20 ≡ n + 1
 base-rank n b =
-    place-from order 1 20 n (refl, (refl, (refl, (refl, (refl, (refl, (refl, (refl, (refl, (refl, (refl, (refl, (refl, (refl, tt)))))))))))))) (b .least) (omega (arith, b .most))
+    place-from order 1 20 n (refl, (refl, (refl, (refl, (refl, (refl, (refl, (refl, (refl, (refl, (refl, (refl, (refl, (refl, (refl, tt))))))))))))))) (b .least) (omega (arith, b .most))
 
 pub rank-size : (n m : ℕ) → Base n → Base m → (rank n ≤ rank m) ↔ (n ≤ m)
 rank-size n m b c =

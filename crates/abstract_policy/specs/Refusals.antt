@@ -16,9 +16,10 @@ abbrev pub firstRefused : List (Bool × ℕ) → ℕ
 firstRefused [] = 0
 firstRefused (r ∷ rest) = cond (r .0) (r .1) (firstRefused rest)
 
--- The numbers in the order in which they are looked at, whichever the call. Of 30 to 33 a packet meets one, the first from the left (REF-3).
+-- The numbers in the order in which they are looked at, whichever the call. Of 30 to 33 a packet meets one, the first from the left (REF-3); from 34 on
+-- they come with later requests (REF-7).
 abbrev pub order : List ℕ
-order = 20 ∷ 21 ∷ 22 ∷ 23 ∷ 24 ∷ 25 ∷ 26 ∷ 27 ∷ 28 ∷ 29 ∷ 30 ∷ 31 ∷ 32 ∷ 33 ∷ []
+order = 20 ∷ 21 ∷ 22 ∷ 23 ∷ 24 ∷ 25 ∷ 26 ∷ 27 ∷ 28 ∷ 29 ∷ 30 ∷ 31 ∷ 32 ∷ 33 ∷ 34 ∷ []
 
 -- a number's place in a list, counted from k on; 0 if it is not there
 abbrev pub placeFrom : ℕ → List ℕ → ℕ → ℕ

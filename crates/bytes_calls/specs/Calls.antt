@@ -22,8 +22,9 @@ use Rattle.wire.specs.declared.packet.ReadPacket.{ReadPacket}
 use Rattle.desk_follower.specs.Follower.{fresh, taken, stateOf, consumerOf}
 use Rattle.desk_follower.specs.declared.Follower.{Follower}
 use Rattle.desk_follower.specs.declared.Shown.{Shown}
+use Rattle.desk_report.specs.Page.{pageBytes, pageFor}
 use Rattle.abstract_calls.specs.Called.{Called, called, refusedCall}
-use Rattle.abstract_calls.specs.Lent.{rowsIn, packetCall, pictureCall}
+use Rattle.abstract_calls.specs.Lent.{rowsIn, packetCall, pictureCall, pageCall}
 use Rattle.abstract_calls.specs.Numbers.{refusedNumber, orderNumber, closedNumber, doneNumber, consumerNumber, lostNumber, shownNumber, trackedNumber}
 use Rattle.abstract_calls.specs.declared.Rows.{Rows}
 use Rattle.bytes_service_image.specs.Image.{serviceBytes, serviceFrom}
@@ -130,3 +131,7 @@ consumerCall r = readerCall r (λ f. consumerNumber (consumerOf (f .shown)))
 
 abbrev pub trackedCall : ReadFollower → ℕ
 trackedCall r = readerCall r (λ f. trackedIn (f .shown))
+
+-- the page, into a buffer: 21, then 34
+abbrev pub writePageCall : ReadFollower → List ℕ → Called
+writePageCall r buffer = cond (r .ok) (pageCall (pageBytes (pageFor (r .follower))) buffer) (refusedCall 21 buffer)

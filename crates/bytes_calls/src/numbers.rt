@@ -7,7 +7,9 @@ use interface_display::State;
 use interface_display::providers::Providers;
 use power_policy_interface::capability::PowerCapability;
 use power_policy_interface::psu::Result;
+use wire_writer::Written;
 ghost use mathlib.Core.Path.{_≡_};
+ghost use Rattle.abstract_calls.specs.Lent.{writtenAs};
 ghost use Rattle.abstract_calls.specs.Numbers.{packed, refusedNumber, bareOrder, capabilityOrder, orderNumber, closedNumber, stepNumber, writtenNumber, doneNumber, stateNumber, lostNumber, shownNumber, consumerNumber, trackedNumber};
 
 // The milliseconds of a wait.
@@ -100,6 +102,16 @@ pub fn written(length: usize) -> u64
     ensures { λ r. ⌜ r ≡ writtenNumber length ⌝ }
 {
     pack(3, (length % 256) as u8, 0, 0, 0, 0)
+}
+
+// What writing into a buffer gave.
+pub fn stored(w: Written) -> u64
+    ensures { λ r. ⌜ r ≡ writtenAs w ⌝ }
+{
+    match w {
+        Written::Refused(number) => refused(number),
+        Written::Length(length) => written(length),
+    }
 }
 
 pub fn done() -> u64

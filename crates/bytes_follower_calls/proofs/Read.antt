@@ -25,21 +25,34 @@ use Rattle.bytes_take.specs.Taken.{takenImage}
 use Rattle.bytes_take.proofs.Images.{read-lost, read-showing, read-refused}
 use Rattle.bytes_calls.specs.Calls.{putFollower, takenCall, takeOn, takeCall, readerCall}
 
--- an image
+-- an image: what f makes of the follower, or z where there is none
+
+module _ {A : Type 0} (b : List ℕ) (r : ReadShown) (f : Follower → A) (z : A) where
+  pub on-refused : r ≡ shownRead (followerIn b) → r ≡ ReadShown.Refused → z ≡ cond (followerFrom b .ok) (f (followerFrom b .follower)) z
+  on-refused e q = sym (ap (λ (t : Bool). cond t (f (followerFrom b .follower)) z) (read-refused b (sym q ∙ e)))
+
+  pub on-lost : (floor : ℕ) → r ≡ ReadShown.Lost floor → ShownBy b r → f (lost floor) ≡ cond (followerFrom b .ok) (f (followerFrom b .follower)) z
+  on-lost floor q s =
+      sym (ap (λ (x : ReadFollower). cond (x .ok) (f (x .follower)) z) (read-lost b floor (subst (λ (x : ReadShown). ShownBy b x) q s)))
+
+  pub on-picture : (p : Picture) (n : A) → r ≡ ReadShown.Picture p → ShownBy b r → ((h : Held) → ImageOf b p h → n ≡ f (showing p h))
+      → n ≡ cond (followerFrom b .ok) (f (followerFrom b .follower)) z
+  on-picture p n q s g =
+      let i = subst (λ (x : ReadShown). ShownBy b x) q s in
+      g (i .0) (i .1) ∙ sym (ap (λ (x : ReadFollower). cond (x .ok) (f (x .follower)) z) (read-showing b p (i .0) (i .1)))
+
+-- a reader returns a number
 
 module _ (b : List ℕ) (r : ReadShown) (f : Follower → ℕ) where
   pub by-refused : r ≡ shownRead (followerIn b) → r ≡ ReadShown.Refused → refusedNumber 21 ≡ readerCall (followerFrom b) f
-  by-refused e q = sym (ap (λ (t : Bool). cond t (f (followerFrom b .follower)) (refusedNumber 21)) (read-refused b (sym q ∙ e)))
+  by-refused e q = on-refused b r f (refusedNumber 21) e q
 
   pub by-lost : (floor : ℕ) → r ≡ ReadShown.Lost floor → ShownBy b r → f (lost floor) ≡ readerCall (followerFrom b) f
-  by-lost floor q s =
-      sym (ap (λ (x : ReadFollower). readerCall x f) (read-lost b floor (subst (λ (x : ReadShown). ShownBy b x) q s)))
+  by-lost floor q s = on-lost b r f (refusedNumber 21) floor q s
 
   pub by-picture : (p : Picture) (n : ℕ) → r ≡ ReadShown.Picture p → ShownBy b r → ((h : Held) → ImageOf b p h → n ≡ f (showing p h))
       → n ≡ readerCall (followerFrom b) f
-  by-picture p n q s g =
-      let i = subst (λ (x : ReadShown). ShownBy b x) q s in
-      g (i .0) (i .1) ∙ sym (ap (λ (x : ReadFollower). readerCall x f) (read-showing b p (i .0) (i .1)))
+  by-picture p n q s g = on-picture b r f (refusedNumber 21) p n q s g
 
 -- a packet
 

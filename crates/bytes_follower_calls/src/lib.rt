@@ -2,6 +2,8 @@
 use bytes_calls::numbers;
 use bytes_follower_image::ReadShown;
 use bytes_follower_image::read_shown;
+use desk_report::page;
+use desk_report::page::Page;
 use interface_display::OptionAvailableConsumer;
 use interface_display::packet::Packet;
 use interface_display::providers::Providers;
@@ -11,7 +13,7 @@ ghost use mathlib.Core.Path.{_≡_};
 ghost use Rattle.abstract_calls.specs.Numbers.{refusedNumber, doneNumber};
 ghost use Rattle.bytes_follower_image.specs.Image.{followerFrom};
 ghost use Rattle.bytes_take.specs.Taken.{takenImage};
-ghost use Rattle.bytes_calls.specs.Calls.{followerStartCall, takeCall, readerCall, shownCall, consumerCall, trackedCall};
+ghost use Rattle.bytes_calls.specs.Calls.{followerStartCall, takeCall, readerCall, shownCall, consumerCall, trackedCall, writePageCall};
 
 // A fresh follower, lost with floor 0; 21 for bytes of another length than an image's.
 pub fn start(image: &mut [u8]) -> u64
@@ -98,6 +100,21 @@ pub fn tracked(image: &[u8]) -> u64
             let display = p.display;
             let providers = display.providers;
             numbers::tracked(providers)
+        }
+    }
+}
+
+// The page of what is shown, from the front of the buffer on; 21 comes first, then 34 for a buffer under 246 bytes.
+pub fn write_page(image: &[u8], buffer: &mut [u8]) -> u64
+    ensures { λ r. ⌜ r ≡ writePageCall (followerFrom (now (image .entry))) (now (buffer .entry)) .number ⌝ }
+    ensures { λ _. ⌜ now (buffer .exit) ≡ writePageCall (followerFrom (now (image .entry))) (now (buffer .entry)) .bytes ⌝ }
+{
+    match read_shown(image) {
+        ReadShown::Refused => numbers::refused(21),
+        ReadShown::Lost(_) => numbers::stored(page::write(Page::lost(), buffer)),
+        ReadShown::Picture(p) => {
+            let state = bytes_take::state(image);
+            numbers::stored(page::write(Page::showing(state, p), buffer))
         }
     }
 }

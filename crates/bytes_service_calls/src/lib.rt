@@ -16,10 +16,9 @@ use machine_service::send;
 use machine_state::phase::Phase;
 use power_policy_interface::limits::SERVICE_IMAGE;
 use power_policy_service::config::OptionConfig;
-use wire_writer::Written;
 ghost use mathlib.Core.Path.{_≡_};
 ghost use Rattle.machine_service.specs.Service.{openOf, answerOf};
-ghost use Rattle.abstract_calls.specs.Lent.{writtenAs, packetCall, pictureCall};
+ghost use Rattle.abstract_calls.specs.Lent.{packetCall, pictureCall};
 ghost use Rattle.bytes_service_image.specs.Image.{serviceFrom};
 ghost use Rattle.bytes_calls.specs.Calls.{startedCall, startCall, steppedCall, withRows, onService, openCall, answerCall, standNumber, orderCall, writePacketCall, writePictureCall};
 
@@ -192,22 +191,13 @@ pub fn read_order(image: &[u8]) -> u64
     order_on(bytes_service_image::read(image))
 }
 
-fn written(w: Written) -> u64
-    ensures { λ r. ⌜ r ≡ writtenAs w ⌝ }
-{
-    match w {
-        Written::Refused(number) => numbers::refused(number),
-        Written::Length(length) => numbers::written(length),
-    }
-}
-
 fn store_packet(sent: SentPacket, buffer: &mut [u8]) -> u64
     ensures { λ r. ⌜ r ≡ packetCall sent (now (buffer .entry)) .number ⌝ }
     ensures { λ _. ⌜ now (buffer .exit) ≡ packetCall sent (now (buffer .entry)) .bytes ⌝ }
 {
     match sent {
         SentPacket::Refused(number) => numbers::refused(number),
-        SentPacket::Packet(e) => written(wire_writer::write_event(e, buffer)),
+        SentPacket::Packet(e) => numbers::stored(wire_writer::write_event(e, buffer)),
     }
 }
 
@@ -235,7 +225,7 @@ fn store_picture(sent: SentPicture, buffer: &mut [u8]) -> u64
 {
     match sent {
         SentPicture::Refused(number) => numbers::refused(number),
-        SentPicture::Picture(p) => written(wire_writer::write_picture(p, buffer)),
+        SentPicture::Picture(p) => numbers::stored(wire_writer::write_picture(p, buffer)),
     }
 }
 

@@ -1,4 +1,4 @@
--- Decimal digits: stored from the last on, they stand at the end of a text; there are at most twenty.
+-- Decimal digits: stored from the last on, they stand at the end of a text, and what was before them stays.
 -- Assumes nothing.
 use mathlib.Core.Path.{_≡_, refl, ap, sym, _∙_}
 use mathlib.Core.Bool.{Bool, true, false, cond}
@@ -6,10 +6,10 @@ use mathlib.Core.List.{List, [], _∷_, _++_, append-assoc}
 use Prim.Native.Nat.{ℕ, zero, suc, _+_, _-_, _/_, _%_, _≤_, _<_}
 use native.Mathlib.Omega.{arith}
 use lib.Dec.{ltb}
-use lib.ListN.{length, drop, set, length-set, length-append}
-use lib.Seq.{append-snoc, drop-cons, drop-set-lt, getD-set-same}
+use lib.ListN.{length, take, drop, set, replicate, length-set}
+use lib.Seq.{append-snoc, drop-cons, drop-set-lt, getD-set-same, take-set-le, take-take}
 use borrow.Author.Tests.{lt-ltb, le-ltb}
-use Rattle.desk_report.specs.Text.{digits, decimal}
+use Rattle.abstract_page.specs.Text.{blank, digits}
 
 -- a store just before the rest
 drop-set : (t : List ℕ) (m d : ℕ) → m < length t → drop m (set t m d) ≡ d ∷ drop (suc m) t
@@ -38,15 +38,15 @@ first t (suc m) n p h e =
     let z : suc m - 1 ≡ m = omega arith in
     rw (z, lt-ltb n 10 g, drop-set t m (48 + n % 10) k)
 
-digits-to : (k n : ℕ) → length (digits k n) ≤ k
-digits-to zero n = omega arith
-digits-to (suc k) n = tested (ltb n 10) (digits-to k (n / 10))
-  where
-    tested : (t : Bool) → length (digits k (n / 10)) ≤ k
-        → length (cond t [] (digits k (n / 10)) ++ ((48 + n % 10) ∷ [])) ≤ suc k
-    tested true h = omega arith
-    tested false h = omega (arith, length-append (digits k (n / 10)) ((48 + n % 10) ∷ []))
+-- the blanks before it stay
 
-pub length-to : (n : ℕ) → length (decimal n) ≤ 20
-unfolding decimal
-length-to n = digits-to 20 n
+take-less : (m : ℕ) → take m (replicate (suc m) blank) ≡ replicate m blank
+take-less zero = refl
+take-less (suc m) = ap (λ (l : List ℕ). blank ∷ l) (take-less m)
+
+pub blanks : (t : List ℕ) (i d : ℕ) → 0 < i → take i t ≡ replicate i blank → take (i - 1) (set t (i - 1) d) ≡ replicate (i - 1) blank
+blanks t zero d p e = absurd (omega arith)
+blanks t (suc m) d p e =
+    let z : suc m - 1 ≡ m = omega arith in
+    let le : m ≤ suc m = omega arith in
+    rw z (take-set-le m t m d (omega arith) ∙ (sym (take-take m (suc m) t le) ∙ (ap (take m) e ∙ take-less m)))

@@ -11,19 +11,20 @@ use lib.Seq.{sets, length-sets, length-take-le}
 use Rattle.interface_display.specs.declared.State.{State}
 use Rattle.wire.specs.Read.{readPacket}
 use Rattle.wire.specs.declared.packet.ReadPacket.{ReadPacket}
+use Rattle.abstract_page.specs.Text.{decimal, word}
+use Rattle.abstract_page.proofs.Decimal.{length-to}
 use Rattle.desk_follower.specs.Follower as follower
 use Rattle.desk_follower.specs.declared.Follower.{Follower}
 use Rattle.desk_follower.specs.declared.OptionNumber.{OptionNumber}
 use Rattle.wire_framing.specs.Framing.{framed}
 use Rattle.wire_framing.specs.declared.Framed.{Framed}
 use Rattle.wire_framing.proofs.Frames.{Told, frame-told}
-use Rattle.desk_report.specs.Text.{decimal, number, word, refused}
+use Rattle.desk_report.specs.Text.{number, refused}
 use Rattle.desk_report.specs.Line.{lineOf, lineBytes, refusedBytes, spaced}
 use Rattle.desk_report.specs.Desk.{counted, lineTaken, lineRead, lineFor, bytesAt, nextAt, steppedBytes, steppedNext, endBytes}
 use Rattle.desk_report.specs.declared.desk.Desk.{Desk}
 use Rattle.desk_report.specs.declared.desk.Next.{Next}
 use Rattle.desk_report.specs.declared.line.Line.{Line}
-use Rattle.desk_report.proofs.Decimal.{length-to}
 
 number-length : (n : OptionNumber) → length (number n) ≤ 20
 number-length OptionNumber.None = omega arith
@@ -48,13 +49,13 @@ unfolding refusedBytes
 refused-length k n =
     omega (arith, length-append (decimal k) (refused ++ (decimal n ++ (10 ∷ []))), length-append refused (decimal n ++ (10 ∷ [])), length-append (decimal n) (10 ∷ []), length-to k, length-to n)
 
-taken-length : (lines : Bool) (k : ℕ) (f : Follower) → length (lineTaken lines k f) ≤ 92
-taken-length true k f = line-length k (lineOf f)
-taken-length false k f = omega arith
+taken-length : (lines : Bool) (k : ℕ) (l : Line) → length (lineTaken lines k l) ≤ 92
+taken-length true k l = line-length k l
+taken-length false k l = omega arith
 
 read-length : (lines : Bool) (k : ℕ) (f : Follower) (r : ReadPacket) → length (lineRead lines k f r) ≤ 92
 read-length lines k f (ReadPacket.Refused n) = refused-length k n
-read-length lines k f (ReadPacket.Packet p) = taken-length lines k (follower.taken f p)
+read-length lines k f (ReadPacket.Packet p) = taken-length lines k (lineOf (follower.taken f p))
 
 at-length : (d : Desk) (s : List ℕ) (r : Framed) → length (bytesAt d s r) ≤ 92
 unfolding lineFor

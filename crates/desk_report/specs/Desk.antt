@@ -11,9 +11,10 @@ use Rattle.wire_framing.specs.declared.Framed.{Framed}
 use Rattle.desk_follower.specs.Follower as follower
 use Rattle.desk_follower.specs.declared.Follower.{Follower}
 use Rattle.desk_report.specs.Text.{header}
-use Rattle.desk_report.specs.Line.{line, refusedBytes}
+use Rattle.desk_report.specs.Line.{lineOf, lineBytes, refusedBytes}
 use Rattle.desk_report.specs.declared.desk.Desk.{Desk}
 use Rattle.desk_report.specs.declared.desk.Next.{Next}
+use Rattle.desk_report.specs.declared.line.Line.{Line}
 
 -- before any packet; whether a packet that is taken has a line
 abbrev pub fresh : Bool → Desk
@@ -31,12 +32,12 @@ afterRead f (ReadPacket.Packet p) = follower.taken f p
 
 -- the line of a packet that was taken, where these have one; of one that is refused always
 
-abbrev pub lineTaken : Bool → ℕ → Follower → List ℕ
-lineTaken lines k f = cond lines (line k f) []
+abbrev pub lineTaken : Bool → ℕ → Line → List ℕ
+lineTaken lines k l = cond lines (lineBytes k l) []
 
 abbrev pub lineRead : Bool → ℕ → Follower → ReadPacket → List ℕ
 lineRead lines k f (ReadPacket.Refused n) = refusedBytes k n
-lineRead lines k f (ReadPacket.Packet p) = lineTaken lines k (follower.taken f p)
+lineRead lines k f (ReadPacket.Packet p) = lineTaken lines k (lineOf (follower.taken f p))
 
 -- a packet: ordinals count every packet, refused ones too
 

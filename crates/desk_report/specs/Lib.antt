@@ -3,3 +3,4 @@ pub mod Line
 pub mod Desk
 pub mod Reads
 pub mod Buffer
+pub mod Page

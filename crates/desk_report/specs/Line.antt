@@ -1,9 +1,10 @@
 -- A line of `follow`.
 use Prim.Native.Nat.{ℕ}
 use mathlib.Core.List.{List, [], _∷_, _++_}
+use Rattle.abstract_page.specs.Text.{decimal, word}
 use Rattle.desk_follower.specs.Follower.{numberOf, stateOf, portOf, mwOf}
 use Rattle.desk_follower.specs.declared.Follower.{Follower}
-use Rattle.desk_report.specs.Text.{decimal, number, word, refused}
+use Rattle.desk_report.specs.Text.{number, refused}
 use Rattle.desk_report.specs.declared.line.Line.{Line}
 
 -- what a line says of a follower: n, state, consumer port, its mW
@@ -30,7 +31,3 @@ lineBytes k l =
 -- PRG-4: `K refused N`
 unfoldable pub refusedBytes : ℕ → ℕ → List ℕ
 refusedBytes k n = decimal k ++ (refused ++ (decimal n ++ (10 ∷ [])))
-
--- the line after a packet that was taken
-abbrev pub line : ℕ → Follower → List ℕ
-line k f = lineBytes k (lineOf f)

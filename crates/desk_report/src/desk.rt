@@ -51,11 +51,11 @@ fn count(k: u64) -> u64
 }
 
 // The line of a packet that was taken, if it has one.
-fn write_taken(lines: bool, k: u64, f: Follower, out: &mut [u8; 128]) -> usize
-    ensures { λ r. ⌜ (r ≡ length (lineTaken lines k f)) × (now (out .exit) ≡ sets (now (out .entry)) 0 (lineTaken lines k f)) ⌝ }
+fn write_taken(lines: bool, k: u64, line: Line, out: &mut [u8; 128]) -> usize
+    ensures { λ r. ⌜ (r ≡ length (lineTaken lines k line)) × (now (out .exit) ≡ sets (now (out .entry)) 0 (lineTaken lines k line)) ⌝ }
 {
     if lines {
-        return Line::of(f).write(k, out);
+        return line.write(k, out);
     }
     0
 }
@@ -99,7 +99,7 @@ impl Desk {
                         packets: k,
                         follower: g,
                     },
-                    written: write_taken(lines, k, g, out),
+                    written: write_taken(lines, k, Line::of(g), out),
                 };
             }
         }

@@ -1,5 +1,6 @@
-// What `follow` and `sheet` write of packets: decimal digits, lines, and what a packet makes of the follower and its line.
+// What programs print of the follower: decimal digits, the lines of packets and what a packet makes of the follower and its line, the page.
 pub mod buffer;
 pub mod desk;
 pub mod line;
+pub mod page;
 pub mod text;

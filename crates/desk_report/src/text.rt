@@ -4,22 +4,23 @@ use interface_display::State;
 ghost use mathlib.Core.Path.{_≡_};
 ghost use mathlib.Core.List.{_∷_};
 ghost use Prim.Native.Nat.{_+_, _≤_};
-ghost use lib.ListN.{length, drop};
+ghost use lib.ListN.{length, take, drop, replicate};
 ghost use lib.Seq.{sets};
-ghost use Rattle.desk_report.specs.Text.{decimal, number, word};
+ghost use Rattle.abstract_page.specs.Text.{blank, decimal, word};
+ghost use Rattle.desk_report.specs.Text.{number};
 ghost use Rattle.desk_report.specs.Line.{spaced};
 
-// Digits stand at the end of the text, from a place on.
-struct Digits {
-    text: [u8; 20],
-    from: usize,
+// A text that stands at the right of 20 columns, from a place on; blanks are before it.
+pub(crate) struct Right {
+    pub(crate) text: [u8; 20],
+    pub(crate) from: usize,
 }
 
-// The last digit is stored first.
-fn digits_of(n: u64) -> Digits
-    ensures { λ r. ⌜ (drop (r .from) (r .text) ≡ decimal n) × (length (r .text) ≡ 20) × (r .from ≤ 20) ⌝ }
+// The decimal digits of a number; the last is stored first.
+pub(crate) fn digits_of(n: u64) -> Right
+    ensures { λ r. ⌜ (drop (r .from) (r .text) ≡ decimal n) × (length (r .text) ≡ 20) × (r .from ≤ 20) × (take (r .from) (r .text) ≡ replicate (r .from) blank) ⌝ }
 {
-    let mut text = [0u8; 20];
+    let mut text = [b' '; 20];
     let mut from: usize = 20;
     let mut rest = n;
     while 0 < from {
@@ -27,10 +28,10 @@ fn digits_of(n: u64) -> Digits
         text[from] = 48 + (rest % 10) as u8;
         rest = rest / 10;
         if rest == 0 {
-            return Digits { text, from };
+            return Right { text, from };
         }
     }
-    Digits { text, from }
+    Right { text, from }
 }
 
 // The writers below write from a place on and return the place after.

@@ -131,3 +131,12 @@ pub extern "C" fn power_policy_follower_tracked(image: &[u8]) -> u64
 {
     bytes_follower_calls::tracked(image)
 }
+
+// The page of what is shown, in the first 246 bytes of the buffer.
+#[no_mangle]
+pub extern "C" fn power_policy_follower_write_page(image: &[u8], buffer: &mut [u8]) -> u64
+    ensures { λ r. ⌜ r ≡ functions .write-page (now (image .entry)) (now (buffer .entry)) .number ⌝ }
+    ensures { λ _. ⌜ now (buffer .exit) ≡ functions .write-page (now (image .entry)) (now (buffer .entry)) .bytes ⌝ }
+{
+    bytes_follower_calls::write_page(image, buffer)
+}

@@ -40,3 +40,7 @@ followerLength = 241
 -- REF-29, PRG-1: bytes of a buffer that every packet and picture fits in, and of the longest packet of a stream
 abbrev pub bufferLength : ℕ
 bufferLength = 64
+
+-- S1-1, REF-34: bytes of a page: six lines of 40 columns and a newline
+abbrev pub pageLength : ℕ
+pageLength = 246

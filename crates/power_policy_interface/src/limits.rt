@@ -32,3 +32,6 @@ pub const FOLLOWER_IMAGE: usize = 241;
 
 // The bytes of a buffer that every packet and picture fits in, and of the longest packet of a stream.
 pub const BUFFER: usize = 64;
+
+// The bytes of a page: six lines of 40 columns and a newline.
+pub const PAGE: usize = 246;

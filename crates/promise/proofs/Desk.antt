@@ -27,13 +27,15 @@ use Rattle.promise_link.specs.Alike.{seenAt, seen}
 use Rattle.promise_link.specs.Link.{followerAfter}
 use Rattle.promise_link.proofs.Alike.{alike}
 use Rattle.abstract_calls.specs.Called.{Called, called, refusedCall}
-use Rattle.abstract_calls.specs.Lent.{takeTo}
+use Rattle.abstract_page.specs.Page.{entriesOf, pageOf}
+use Rattle.abstract_calls.specs.Lent.{takeTo, pageCall}
 use Rattle.abstract_calls.specs.Numbers.{doneNumber, refusedNumber, shownNumber, consumerNumber}
 use Rattle.abstract_calls.specs.Calls.{deskAfter, deskReturned, deskBufferIn, deskBufferAfter, desk, packetsOf, DeskBytes}
 use Rattle.abstract_calls.specs.Definition.{Refuses, followed, deskReturnTo, deskBufferTo, deskConditionsTo}
-use Rattle.abstract_calls.specs.DeskCall.{DeskCall, takePacket, readShown, readConsumer, readTracked, readConditions, shownBy, consumerBy, trackedBy}
+use Rattle.abstract_calls.specs.DeskCall.{DeskCall, takePacket, readShown, readConsumer, readTracked, writePage, readConditions, shownBy, consumerBy, trackedBy}
 use Rattle.abstract_calls.proofs.OneToOne.{one-to-one}
 use Rattle.abstract_calls.proofs.Packets.{read-refuses}
+use Rattle.abstract_calls.proofs.Pages.{page-refuses, page-back}
 use Rattle.abstract_calls.proofs.Results.{packed-low, done-low}
 use Rattle.bytes_follower_image.specs.Image.{followerBytes, followerFrom}
 use Rattle.bytes_follower_image.specs.declared.ReadFollower.{ReadFollower}
@@ -42,6 +44,8 @@ use Rattle.bytes_calls.specs.Calls.{takenCall, takeCall, readerCall, shownAs, t
 use Rattle.abi_functions.specs.Ours.{functions}
 use Rattle.promise_calls.proofs.Takes.{each-keeps, desk-is, desk-fits, desk-read}
 use Rattle.promise.specs.Promise.{Follows, FollowerStarts}
+use Rattle.promise.specs.Runs.{Says}
+use Rattle.promise.proofs.Pages.{page-is, page-says}
 
 taken-number : (b : List ℕ) (f : Follower) (y : ReadPacket) → takenCall b f y .number ≡ takeTo y
 taken-number b f (ReadPacket.Refused n) = refl
@@ -63,6 +67,16 @@ module _ (x : List ℕ) (e : length x ≡ followerLength) (l : List DeskCall) (a
   back y n q =
       ap (λ (r : ReadFollower). cond {A = Called} (r .ok) (takenCall (desk functions x l) (r .follower) (readPacket y)) (refusedCall 21 (desk functions x l)) .bytes) read
       ∙ ap (λ (z : ReadPacket). takenCall (desk functions x l) (followerAfter (packetsOf l)) z .bytes) q
+
+  page-same : (buffer : List ℕ) → functions .write-page (desk functions x l) buffer ≡ pageCall (pageOf (followed l)) buffer
+  page-same buffer =
+      page-is (desk functions x l) (followerAfter (packetsOf l)) read (desk-fits x e l (each-keeps (packetsOf l) a)) buffer
+      ∙ ap (λ (p : paper.Follower). pageCall (pageOf p) buffer) (alike .takes-alike (packetsOf l) a)
+
+  page-told : Says functions (desk functions x l) (entriesOf (followed l))
+  page-told =
+      subst (λ (p : paper.Follower). Says functions (desk functions x l) (entriesOf p)) (alike .takes-alike (packetsOf l) a)
+      (page-says (desk functions x l) (followerAfter (packetsOf l)) read (desk-fits x e l (each-keeps (packetsOf l) a)))
 
   told : (t : Follower → ℕ) → readerCall (followerFrom (desk functions x l)) t ≡ t (followerAfter (packetsOf l))
   told t = ap (λ (r : ReadFollower). readerCall r t) read
@@ -119,12 +133,14 @@ module _ (x : List ℕ) (e : length x ≡ followerLength) (l : List DeskCall) (a
   returns readShown = told x e l a (λ f. shownAs (stateOf f) (f .shown)) ∙ shown-same (packetsOf l) a
   returns readConsumer = told x e l a (λ f. consumerNumber (consumerOf (f .shown))) ∙ consumer-same (packetsOf l) a
   returns readTracked = told x e l a (λ f. trackedIn (f .shown)) ∙ tracked-same (packetsOf l) a
+  returns (writePage buffer) = ap (λ (c : Called). c .number) (page-same x e l a buffer)
 
   told-refuses : (c : DeskCall) → Refuses (deskConditionsTo (followed l) c) (deskReturnTo (followed l) c)
   told-refuses (takePacket y) = read-refuses y (readPacket y) refl
   told-refuses readShown = free (shownBy (followed l)) 5 (shown-low (followed l)) (λ z. omega (arith, z))
   told-refuses readConsumer = free (consumerBy (followed l)) 6 (consumer-low (followed l)) (λ z. omega (arith, z))
   told-refuses readTracked = free (trackedBy (followed l)) 7 (tracked-low (followed l)) (λ z. omega (arith, z))
+  told-refuses (writePage buffer) = page-refuses (pageOf (followed l)) buffer
 
   turned-back : (c : DeskCall) → deskReturned functions (desk functions x l) c % 256 ≡ 0 →
       (deskAfter functions (desk functions x l) c ≡ desk functions x l) × (deskBufferAfter functions (desk functions x l) c ≡ deskBufferIn c)
@@ -139,12 +155,16 @@ module _ (x : List ℕ) (e : length x ≡ followerLength) (l : List DeskCall) (a
   turned-back readShown k = (refl, refl)
   turned-back readConsumer k = (refl, refl)
   turned-back readTracked k = (refl, refl)
+  turned-back (writePage buffer) k =
+      let e = page-same x e l a buffer in
+      (refl, ap (λ (c : Called). c .bytes) e ∙ page-back (pageOf (followed l)) buffer (ap (λ (c : Called). c .number % 256) (sym e) ∙ k))
 
   buffers : (c : DeskCall) → deskBufferAfter functions (desk functions x l) c ≡ deskBufferTo (followed l) c
   buffers (takePacket y) = refl
   buffers readShown = refl
   buffers readConsumer = refl
   buffers readTracked = refl
+  buffers (writePage buffer) = ap (λ (c : Called). c .bytes) (page-same x e l a buffer)
 
 ours-follows : (x : List ℕ) → length x ≡ followerLength → Follows functions x
 ours-follows x e = record {
@@ -152,11 +172,13 @@ ours-follows x e = record {
     shown = told x e [] tt (λ f. shownAs (stateOf f) (f .shown));
     consumer = told x e [] tt (λ f. consumerNumber (consumerOf (f .shown)));
     tracked = told x e [] tt (λ f. trackedIn (f .shown));
+    page = page-told x e [] tt;
   };
   refuses = λ l c a. subst (λ (n : ℕ). Refuses (deskConditionsTo (followed l) c) n) (sym (returns x e l a c)) (told-refuses x e l a c);
   turned-back = λ l c a k. turned-back x e l a c k;
   returns = λ l c a. returns x e l a c;
   buffers = λ l c a. buffers x e l a c;
+  page = λ l a. page-told x e l a;
   size = λ l a. size x e l a;
   bytes = λ l a.
       subst AllBytes (sym (desk-is x e l (each-keeps (packetsOf l) a)))

@@ -35,6 +35,9 @@ use Rattle.bytes_follower_image.specs.declared.ReadFollower.{ReadFollower}
 use Rattle.bytes_follower_image.proofs.OneImage.{follower-read-write, follower-write-read, follower-read-fits}
 use Rattle.promise_invariant.proofs.Good.{Good}
 use Rattle.promise_invariant.proofs.Bound.{good-orders, good-rest}
+use Rattle.abstract_calls.specs.Lent.{pageCall}
+use Rattle.desk_report.specs.Page.{pageBytes, pageFor}
+use Rattle.promise.proofs.Pages.{page-is, page-says}
 use Rattle.bytes_calls.specs.Calls.{takenCall, shownAs, trackedIn}
 use Rattle.abi_functions.specs.Ours.{functions}
 use Rattle.promise_calls.proofs.Takes.{each-keeps, desk-read}
@@ -67,11 +70,12 @@ accepted-good b s h e =
 
 no-follower : (b y : List ℕ) → followerFrom b .ok ≡ false →
     (functions .take b y ≡ refusedCall 21 b)
-    × ((functions .shown b ≡ refusedNumber 21) × ((functions .consumer b ≡ refusedNumber 21) × (functions .tracked b ≡ refusedNumber 21)))
+    × ((functions .shown b ≡ refusedNumber 21)
+    × ((functions .consumer b ≡ refusedNumber 21) × ((functions .tracked b ≡ refusedNumber 21) × (functions .write-page b y ≡ refusedCall 21 y))))
 no-follower b y e =
     let f = followerFrom b .follower in (
       ap (λ (t : Bool). cond {A = Called} t (takenCall b f (readPacket y)) (refusedCall 21 b)) e,
-      (reader (shownAs (stateOf f) (f .shown)), (reader (consumerNumber (consumerOf (f .shown))), reader (trackedIn (f .shown)))),
+      (reader (shownAs (stateOf f) (f .shown)), (reader (consumerNumber (consumerOf (f .shown))), (reader (trackedIn (f .shown)), ap (λ (t : Bool). cond {A = Called} t (pageCall (pageBytes (pageFor f)) y) (refusedCall 21 y)) e))),
     )
   where
     reader : (n : ℕ) → cond {A = ℕ} (followerFrom b .ok) n (refusedNumber 21) ≡ refusedNumber 21
@@ -97,6 +101,8 @@ laid-out = record {
       (good-orders s z, good-rest s z);
   no-follower = no-follower;
   takes-on = takes-on;
+  page-on = λ b buffer f h e. page-is b f e (follower-read-fits b f h e) buffer;
+  page-read = λ b f h e. page-says b f e (follower-read-fits b f h e);
   refuses = call-refuses;
   turned-back = call-back;
   packet = λ y p h. (

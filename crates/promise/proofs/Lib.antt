@@ -1,5 +1,6 @@
 pub mod Sent
 pub mod Shown
+pub mod Pages
 pub mod Linked
 pub mod Desk
 pub mod Starts

@@ -44,9 +44,12 @@ use Rattle.promise_invariant.proofs.Good.{Good}
 use Rattle.bytes_calls.specs.Calls.{readerCall, shownAs, trackedIn}
 use Rattle.abi_functions.specs.Ours.{functions}
 use Rattle.abstract_calls.proofs.Lists.{packets-on}
+use Rattle.abstract_page.specs.Page.{entriesOf}
+use Rattle.promise_link.specs.Alike.{seenAt}
+use Rattle.promise.proofs.Pages.{page-says, says-either}
 use Rattle.promise_calls.proofs.Takes.{AllKeep, all-keep, desk-fits, desk-read}
 use Rattle.promise_calls.proofs.Written.{Sent, bytes-left, packet-sent, picture-sent}
-use Rattle.promise.specs.Runs.{PacketOf, PictureOf, Handed, packet, picture, turned-back, AllHanded, In, Comes, NothingAbove, NoEventAbove, Lost, Shows}
+use Rattle.promise.specs.Runs.{PacketOf, PictureOf, Handed, packet, picture, turned-back, AllHanded, In, Comes, NothingAbove, NoEventAbove, Says, Lost, Shows}
 use Rattle.promise.specs.Promise.{Link}
 use Rattle.promise.proofs.Sent.{packetOf, packet-is, picture-is}
 use Rattle.promise.proofs.Shown.{shown-number, not-lost, level-or-waiting}
@@ -192,11 +195,17 @@ module _ (s : Service) (good : Good s) (demands : run.Demands s) (calls : List B
     told : (t : Follower → Shown → ℕ) (u : Shown) → followerAfter (packetsOf l) .shown ≡ u → readerCall (followerFrom (desk functions x l)) (λ f. t f (f .shown)) ≡ t (followerAfter (packetsOf l)) u
     told t u e = ap (λ (r : ReadFollower). readerCall r (λ f. t f (f .shown))) (desk-read x size l keep) ∙ ap (t (followerAfter (packetsOf l))) e
 
+    says : (u : Shown) → followerAfter (packetsOf l) .shown ≡ u → Says functions (desk functions x l) (entriesOf (seenAt u (followerAfter (packetsOf l) .held)))
+    says u e =
+        subst (λ (v : Shown). Says functions (desk functions x l) (entriesOf (seenAt v (followerAfter (packetsOf l) .held)))) e
+        (page-says (desk functions x l) (followerAfter (packetsOf l)) (desk-read x size l keep) (desk-fits x size l keep))
+
     lost-by : taken.FollowerLost (followerAfter (packetsOf l)) → Lost functions (desk functions x l)
     lost-by z = record {
       shown = told (λ f u. shownAs (stateOf f) u) (Shown.Lost (z .0)) (z .1);
       consumer = told (λ f u. consumerNumber (consumerOf u)) (Shown.Lost (z .0)) (z .1);
       tracked = told (λ f u. trackedIn u) (Shown.Lost (z .0)) (z .1);
+      page = says (Shown.Lost (z .0)) (z .1);
     }
 
     small : (n : ℕ) (d : Display) → taken.FollowerShows (followerAfter (packetsOf l)) n d → d .unconstrained .available ≤ 16
@@ -213,6 +222,7 @@ module _ (s : Service) (good : Good s) (demands : run.Demands s) (calls : List B
           number = ap (λ (y : ℕ). y / 4294967296) r ∙ shown-number (stateOf (followerAfter (packetsOf l))) n d (small n d e);
           consumer = told (λ f u. consumerNumber (consumerOf u)) (Shown.Picture (record { number = n; display = d })) e;
           tracked = told (λ f u. trackedIn u) (Shown.Picture (record { number = n; display = d })) e;
+          page = says-either (desk functions x l) n d _ (says (Shown.Picture (record { number = n; display = d })) e);
         }
 
     -- lost or shown, it is the follower that is: it can be nothing else

@@ -35,7 +35,7 @@ use Rattle.abstract_calls.specs.Called.{Called, refusedCall}
 use Rattle.abstract_calls.specs.Numbers.{refusedNumber, consumerNumber}
 use Rattle.abstract_calls.specs.ServiceCall.{ByteCall, openEvent, giveAnswer, readOrder, writePacket, writePicture}
 use Rattle.abstract_calls.specs.Calls.{bufferIn, CallsBytes, imageAfter, returned, bufferAfter, images, Writes, deskAfter, deskReturned, deskBufferIn, deskBufferAfter}
-use Rattle.abstract_calls.specs.DeskCall.{DeskCall, takePacket, readShown, readConsumer, readTracked}
+use Rattle.abstract_calls.specs.DeskCall.{DeskCall, takePacket, readShown, readConsumer, readTracked, writePage}
 use Rattle.abstract_calls.specs.Functions.{Arguments, configOf}
 use Rattle.abstract_calls.specs.Definition.{callsOf, defined, conditionsTo, Refuses}
 use Rattle.bytes_service_image.specs.Image.{serviceBytes, serviceFrom}
@@ -44,6 +44,8 @@ use Rattle.bytes_service_image.proofs.Service.{service-bytes}
 use Rattle.bytes_service_image.proofs.Stored.{service-length}
 use Rattle.bytes_follower_image.specs.Image.{followerFrom}
 use Rattle.promise_invariant.proofs.Good.{Good}
+use Rattle.abstract_calls.specs.Lent.{pageCall}
+use Rattle.desk_report.specs.Page.{pageBytes, pageFor}
 use Rattle.bytes_calls.specs.Calls.{startCall, onService, orderCall, writePacketCall, writePictureCall, takenCall, readerCall, shownAs, trackedIn}
 use Rattle.abi_functions.specs.Ours.{functions}
 use Rattle.abstract_calls.proofs.Lists.{no-bytes}
@@ -212,6 +214,11 @@ desk-other b c e = go c
     go readShown = (reader (λ f. shownAs (stateOf f) (f .shown)), refl, refl)
     go readConsumer = (reader (λ f. consumerNumber (consumerOf (f .shown))), refl, refl)
     go readTracked = (reader (λ f. trackedIn (f .shown)), refl, refl)
+    go (writePage buffer) = (
+      ap (λ (x : Bool). cond {A = Called} x (pageCall (pageBytes (pageFor (followerFrom b .follower))) buffer) (refusedCall 21 buffer) .number) none,
+      refl,
+      ap (λ (x : Bool). cond {A = Called} x (pageCall (pageBytes (pageFor (followerFrom b .follower))) buffer) (refusedCall 21 buffer) .bytes) none,
+    )
 
 pub promised : Promise functions
 promised = record {

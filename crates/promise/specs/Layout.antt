@@ -29,10 +29,13 @@ use Rattle.wire.specs.declared.packet.ReadPacket.{ReadPacket}
 use Rattle.desk_follower.specs.declared.Follower.{Follower}
 use Rattle.desk_report.specs.Desk.{follow}
 use Rattle.desk_report.specs.Reads.{run}
+use Rattle.abstract_page.specs.Page.{entriesOf, pageOf}
+use Rattle.promise_link.specs.Alike.{seen}
 use Rattle.promise_link.specs.Link.{followerAfter}
 use Rattle.promise_edges.specs.Edges.{Edges}
 use Rattle.promise_run.specs.Demands.{Equal}
 use Rattle.abstract_calls.specs.Called.{refusedCall}
+use Rattle.abstract_calls.specs.Lent.{pageCall}
 use Rattle.abstract_calls.specs.Numbers.{refusedNumber}
 use Rattle.abstract_calls.specs.OneToOne.{OneToOne}
 use Rattle.abstract_calls.specs.ServiceCall.{ByteCall}
@@ -50,6 +53,7 @@ use Rattle.bytes_calls.specs.Calls.{takenCall}
 use Rattle.abi_functions.specs.Ours.{functions}
 use Rattle.promise_calls.specs.Refused.{conditions}
 use Rattle.promise.specs.Promise.{startRefused, registers}
+use Rattle.promise.specs.Runs.{Says}
 
 pub record Layout : Type 0 where
   -- REF-21 is exact: bytes are read as a service, or as a follower, exactly if it is well formed and they are its image.
@@ -71,13 +75,18 @@ pub record Layout : Type 0 where
       (b : List ℕ) (s : Service) → AllBytes b → serviceFrom b ≡ ReadService.Read s →
       (s .orders ≤ 3 + 4 * s .registration .chargers)
       × AtMost (4 + 4 * s .registration .chargers - s .orders) (standsAt (s .registration) (s .phase) (s .memory))
-  -- A take and the readers on any bytes: 21 where they are no image, and then the bytes stay; else what the definition's follower does.
+  -- A take, the readers and the page on any bytes: 21 where they are no image, and then the bytes stay; else what the definition's follower does.
   pub no-follower :
       (b y : List ℕ) → followerFrom b .ok ≡ false →
       (functions .take b y ≡ refusedCall 21 b)
-      × ((functions .shown b ≡ refusedNumber 21) × ((functions .consumer b ≡ refusedNumber 21) × (functions .tracked b ≡ refusedNumber 21)))
+      × ((functions .shown b ≡ refusedNumber 21)
+      × ((functions .consumer b ≡ refusedNumber 21) × ((functions .tracked b ≡ refusedNumber 21) × (functions .write-page b y ≡ refusedCall 21 y))))
   pub takes-on :
       (b y : List ℕ) (f : Follower) → followerFrom b ≡ record { ok = true; follower = f } → functions .take b y ≡ takenCall b f (readPacket y)
+  pub page-on :
+      (b buffer : List ℕ) (f : Follower) → AllBytes b → followerFrom b ≡ record { ok = true; follower = f } → functions .write-page b buffer ≡ pageCall (pageOf (seen f)) buffer
+  -- S1-7: the page of every image that is accepted, reached or not, is read as what its follower shows.
+  pub page-read : (b : List ℕ) (f : Follower) → AllBytes b → followerFrom b ≡ record { ok = true; follower = f } → Says functions b (entriesOf (seen f))
   -- On any bytes a call of the service is refused by the first number that applies, 21 before all others,
   pub refuses : (b : List ℕ) (c : ByteCall) → Refuses (conditions b c) (returned functions b c)
   -- and then leaves every byte.

@@ -15,6 +15,7 @@
 --   numbers      abstract_calls specs/Numbers.antt, OneToOne.antt, Called.antt, Lent.antt
 --   packets      wire specs/Number.antt, Parser.antt, Packet.antt, Bytes.antt, Read.antt; wire_writer specs/; interface_display specs/; interface_records specs/; power_policy_interface specs/
 --   follower     abstract_desk specs/Follower.antt, Takes.antt
+--   page         abstract_page specs/Page.antt, Text.antt, ReadPage.antt
 --   link         `Link`, below
 use Prim.Native.Nat.{ℕ, _+_, _*_, _%_, _≤_}
 use mathlib.Core.Bool.{false, cond}
@@ -41,6 +42,7 @@ use Rattle.abstract_policy.specs.declared.outcome.SentPacket.{SentPacket}
 use Rattle.abstract_policy.specs.declared.outcome.SentPicture.{SentPicture}
 use Rattle.wire.specs.Read.{readPacket}
 use Rattle.wire.specs.declared.packet.ReadPacket.{ReadPacket}
+use Rattle.abstract_page.specs.Page.{entriesOf}
 use Rattle.abstract_calls.specs.Numbers.{refusedNumber, doneNumber}
 use Rattle.abstract_calls.specs.OneToOne.{AnswerFits, DisplayFits}
 use Rattle.abstract_calls.specs.ServiceCall.{ByteCall, writePacket, writePicture}
@@ -48,7 +50,7 @@ use Rattle.abstract_calls.specs.Calls.{bufferIn, CallsBytes, imageAfter, return
 use Rattle.abstract_calls.specs.DeskCall.{DeskCall, takePacket}
 use Rattle.abstract_calls.specs.Functions.{Functions, Arguments, configOf}
 use Rattle.abstract_calls.specs.Definition.{callsOf, defined, held, Closes, OrderFitsAt, returnTo, bufferTo, conditionsTo, startConditions, Refuses, followed, deskReturnTo, deskBufferTo, deskConditionsTo}
-use Rattle.promise.specs.Runs.{PictureOf, Handed, AllHanded, Comes, NothingAbove, NoEventAbove, Lost, Shows}
+use Rattle.promise.specs.Runs.{PictureOf, Handed, AllHanded, Comes, NothingAbove, NoEventAbove, Says, Lost, Shows}
 
 -- 0: done; else the number that turns it back
 abbrev pub doneOr : ℕ → ℕ
@@ -133,8 +135,10 @@ pub record Follows (f : Functions) (x : List ℕ) : Type 0 where
       (deskAfter f (desk f x l) c ≡ desk f x l) × (deskBufferAfter f (desk f x l) c ≡ deskBufferIn c)
   -- The readers tell lost, or the number, level or waiting, both figures, the consumer and the tracked ports of the follower after these calls,
   pub returns : (l : List DeskCall) (c : DeskCall) → DeskBytes l → deskReturned f (desk f x l) c ≡ deskReturnTo (followed l) c
-  -- and what is written is of it.
+  -- and what is written is of it: S1-6, every byte of the page is fixed by the follower, and later bytes stay.
   pub buffers : (l : List DeskCall) (c : DeskCall) → DeskBytes l → deskBufferAfter f (desk f x l) c ≡ deskBufferTo (followed l) c
+  -- S1-7: figures and names can be read back from the page.
+  pub page : (l : List DeskCall) → DeskBytes l → Says f (desk f x l) (entriesOf (followed l))
   -- An image stays so many bytes.
   pub size : (l : List DeskCall) → DeskBytes l → length (desk f x l) ≡ followerLength
   pub bytes : (l : List DeskCall) → DeskBytes l → AllBytes (desk f x l)

@@ -4,6 +4,8 @@ use Prim.Native.Nat.{ℕ, _+_, _/_, _≤_, _<_}
 use mathlib.Core.List.{List, [], _∷_, _++_}
 use mathlib.Core.Logic.{_⊎_}
 use mathlib.Core.Path.{_≡_}
+use lib.ListN.{length, take}
+use Rattle.power_policy_interface.specs.Limits.{pageLength}
 use Rattle.power_policy_interface.specs.declared.psu.Result.{Result}
 use Rattle.interface_display.specs.Providers.{none}
 use Rattle.interface_display.specs.declared.Display.{Display}
@@ -12,6 +14,8 @@ use Rattle.interface_display.specs.declared.State.{State}
 use Rattle.abstract_policy.specs.declared.state.Registration.{Registration}
 use Rattle.wire.specs.Read.{readPacket}
 use Rattle.wire.specs.declared.packet.ReadPacket.{ReadPacket}
+use Rattle.abstract_page.specs.Page.{Entry, lostEntries, shownEntries}
+use Rattle.abstract_page.specs.ReadPage.{readPage}
 use Rattle.abstract_calls.specs.Numbers.{lostNumber, shownNumber, consumerNumber, trackedNumber}
 use Rattle.abstract_calls.specs.ServiceCall.{ByteCall, writePacket, writePicture}
 use Rattle.abstract_calls.specs.Calls.{images, Writes}
@@ -67,12 +71,18 @@ module _ (f : Functions) (image : List ℕ) (g : Registration) (calls : List Byt
   abbrev pub NoEventAbove : ℕ → List (List ℕ) → Type 0
   NoEventAbove m l = (n : ℕ) (y : List ℕ) → In y l → PacketOf n y → n ≤ m
 
--- what an image of the follower shows is what the three readers return
+-- S1-7: what is read from the page that is written of it, whatever the buffer
+abbrev pub Says : Functions → List ℕ → List Entry → Type 0
+Says f b l = (buffer : List ℕ) → pageLength ≤ length buffer → readPage (take pageLength (f .write-page b buffer .bytes)) ≡ l
+
+-- what an image of the follower shows is what the three readers return and the page says
 
 pub record Lost (f : Functions) (b : List ℕ) : Type 0 where
   pub shown : f .shown b ≡ lostNumber
   pub consumer : f .consumer b ≡ consumerNumber OptionAvailableConsumer.None
   pub tracked : f .tracked b ≡ trackedNumber none
+  -- S1-5: hyphens on all but the state line
+  pub page : Says f b lostEntries
 
 pub record Shows (f : Functions) (b : List ℕ) (n : ℕ) (d : Display) : Type 0 where
   -- level or waiting
@@ -81,3 +91,4 @@ pub record Shows (f : Functions) (b : List ℕ) (n : ℕ) (d : Display) : Type 0
   pub number : f .shown b / 4294967296 ≡ n
   pub consumer : f .consumer b ≡ consumerNumber (d .consumer)
   pub tracked : f .tracked b ≡ trackedNumber (d .providers)
+  pub page : Says f b (shownEntries State.Level n d) ⊎ Says f b (shownEntries State.Waiting n d)

@@ -1,4 +1,4 @@
--- LNK-4: a trace: any list of calls of the eleven functions, in any order, on one image of the service and one of the follower, after a start of each that
+-- LNK-4: a trace: any list of calls of the twelve functions, in any order, on one image of the service and one of the follower, after a start of each that
 -- was done, starts anew included; and what is seen of it.
 use Prim.Native.Nat.{ℕ}
 use mathlib.Core.List.{List, [], _∷_}

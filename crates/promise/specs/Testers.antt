@@ -1,4 +1,4 @@
--- TST-4 to TST-11, the testers' second programs: each is ours but for one function, or for the three readers.
+-- TST-4 to TST-11, the testers' second programs: each is ours but for one function, or for the three readers and the page.
 use Prim.Native.Nat.{ℕ, _-_}
 use mathlib.Core.Bool.{cond}
 use mathlib.Core.List.{List, _++_}
@@ -7,7 +7,9 @@ use lib.ListN.{length, drop, getD, set}
 use Rattle.power_policy_interface.specs.declared.psu.Result.{Result}
 use Rattle.interface_display.specs.Providers.{none}
 use Rattle.interface_display.specs.declared.OptionAvailableConsumer.{OptionAvailableConsumer}
+use Rattle.abstract_page.specs.Page.{Entry, lines, lostEntries}
 use Rattle.abstract_calls.specs.Called.{Called, called}
+use Rattle.abstract_calls.specs.Lent.{pageCall}
 use Rattle.abstract_calls.specs.Numbers.{refusedNumber, closedNumber, lostNumber, consumerNumber, trackedNumber}
 use Rattle.abstract_calls.specs.Functions.{Functions}
 use Rattle.abi_functions.specs.Ours.{functions}
@@ -17,8 +19,8 @@ use Rattle.promise.specs.Promise.{Promise}
 
 abbrev changed :
     (List ℕ → List ℕ → List ℕ → ℕ → ℕ → ℕ → Called) → (List ℕ → List ℕ → List ℕ → ℕ → Called) → (List ℕ → List ℕ → Called) → (List ℕ → List ℕ → Called) →
-    (List ℕ → ℕ) → (List ℕ → ℕ) → (List ℕ → ℕ) → Functions
-changed open-event answer write-packet take shown consumer tracked = record {
+    (List ℕ → ℕ) → (List ℕ → ℕ) → (List ℕ → ℕ) → (List ℕ → List ℕ → Called) → Functions
+changed open-event answer write-packet take shown consumer tracked write-page = record {
   start = functions .start;
   open-event = open-event;
   answer = answer;
@@ -30,26 +32,28 @@ changed open-event answer write-packet take shown consumer tracked = record {
   shown = shown;
   consumer = consumer;
   tracked = tracked;
+  write-page = write-page;
 }
 
 abbrev withOpen : (List ℕ → List ℕ → List ℕ → ℕ → ℕ → ℕ → Called) → Functions
-withOpen o = changed o (functions .answer) (functions .write-packet) (functions .take) (functions .shown) (functions .consumer) (functions .tracked)
+withOpen o = changed o (functions .answer) (functions .write-packet) (functions .take) (functions .shown) (functions .consumer) (functions .tracked) (functions .write-page)
 
 abbrev withAnswer : (List ℕ → List ℕ → List ℕ → ℕ → Called) → Functions
-withAnswer o = changed (functions .open-event) o (functions .write-packet) (functions .take) (functions .shown) (functions .consumer) (functions .tracked)
+withAnswer o = changed (functions .open-event) o (functions .write-packet) (functions .take) (functions .shown) (functions .consumer) (functions .tracked) (functions .write-page)
 
 abbrev withPacket : (List ℕ → List ℕ → Called) → Functions
-withPacket o = changed (functions .open-event) (functions .answer) o (functions .take) (functions .shown) (functions .consumer) (functions .tracked)
+withPacket o = changed (functions .open-event) (functions .answer) o (functions .take) (functions .shown) (functions .consumer) (functions .tracked) (functions .write-page)
 
 abbrev withTake : (List ℕ → List ℕ → Called) → Functions
-withTake o = changed (functions .open-event) (functions .answer) (functions .write-packet) o (functions .shown) (functions .consumer) (functions .tracked)
+withTake o = changed (functions .open-event) (functions .answer) (functions .write-packet) o (functions .shown) (functions .consumer) (functions .tracked) (functions .write-page)
 
-abbrev withReaders : ℕ → ℕ → ℕ → Functions
-withReaders s c t = changed (functions .open-event) (functions .answer) (functions .write-packet) (functions .take) (λ b. s) (λ b. c) (λ b. t)
+abbrev withReaders : ℕ → ℕ → ℕ → List Entry → Functions
+withReaders s c t l =
+    changed (functions .open-event) (functions .answer) (functions .write-packet) (functions .take) (λ b. s) (λ b. c) (λ b. t) (λ b buffer. pageCall (lines l) buffer)
 
 -- TST-4: a follower that says lost from the first packet
 abbrev pub alwaysLost : Functions
-alwaysLost = withReaders lostNumber (consumerNumber OptionAvailableConsumer.None) (trackedNumber none)
+alwaysLost = withReaders lostNumber (consumerNumber OptionAvailableConsumer.None) (trackedNumber none) lostEntries
 
 -- TST-5: one that shows pictures and ignores events: a packet of kind 1 leaves the follower as it was
 abbrev pub deaf : Functions

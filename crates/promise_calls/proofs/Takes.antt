@@ -21,7 +21,7 @@ use Rattle.promise_link.proofs.Lists.{read-back}
 use Rattle.abstract_calls.specs.Called.{Called, called, refusedCall}
 use Rattle.abstract_calls.specs.Numbers.{doneNumber}
 use Rattle.abstract_calls.specs.Calls.{desks, desk, packetsOf}
-use Rattle.abstract_calls.specs.DeskCall.{DeskCall, takePacket, readShown, readConsumer, readTracked}
+use Rattle.abstract_calls.specs.DeskCall.{DeskCall, takePacket, readShown, readConsumer, readTracked, writePage}
 use Rattle.abstract_calls.specs.Functions.{Functions}
 use Rattle.bytes_follower_image.specs.Fits.{imageFits}
 use Rattle.bytes_follower_image.specs.Image.{followerBytes, followerFrom}
@@ -99,6 +99,7 @@ desk-takes f (takePacket y ∷ l) b = desk-takes f l (f .take b y .bytes)
 desk-takes f (readShown ∷ l) b = desk-takes f l b
 desk-takes f (readConsumer ∷ l) b = desk-takes f l b
 desk-takes f (readTracked ∷ l) b = desk-takes f l b
+desk-takes f (writePage buffer ∷ l) b = desk-takes f l b
 
 takes-bytes : (l : List (List ℕ)) (f : Follower) → AllKeep l → imageFits f ≡ true → takesOn functions (followerBytes f) l ≡ followerBytes (link.takesBytes f l)
 takes-bytes [] f a h = refl

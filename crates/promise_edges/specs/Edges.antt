@@ -36,7 +36,8 @@ use Rattle.desk_follower.specs.Held.{noneHeld, greatest, above}
 use Rattle.desk_follower.specs.declared.Follower.{Follower}
 use Rattle.desk_follower.specs.declared.OptionNumber.{OptionNumber}
 use Rattle.wire_framing.specs.Framing.{framed}
-use Rattle.desk_report.specs.Text.{decimal, header}
+use Rattle.abstract_page.specs.Text.{decimal}
+use Rattle.desk_report.specs.Text.{header}
 use Rattle.desk_report.specs.Line.{lineOf, lineBytes, refusedBytes}
 use Rattle.desk_report.specs.Desk.{afterRead, takenBy, lineFor, follow}
 use Rattle.desk_report.specs.declared.line.Line.{Line}

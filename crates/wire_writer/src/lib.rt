@@ -16,7 +16,8 @@ ghost use Rattle.interface_display.specs.Notices.{listed};
 ghost use Rattle.wire.specs.Bytes.{capabilityBytes, contractBytes, noticeBytes, allBytes, consumerBytes, portsBytes, eventBytes, pictureBytes};
 ghost use Rattle.wire_writer.specs.Stored.{stored, writtenOf};
 
-// What writing a packet gives: 29 for a buffer under 64 bytes, or how many bytes were written.
+// What writing into a buffer gives: the number that a buffer is refused by which is too short (29 under 64 bytes for a packet or
+// picture), or how many bytes were written.
 pub enum Written {
     Refused(u8),
     Length(usize),

@@ -5,6 +5,7 @@ pub const FOLLOWER_IMAGE: usize = 241;
 pub const PSU_RECORD: usize = 18;
 pub const CHARGER_RECORD: usize = 7;
 pub const BUFFER: usize = 64;
+pub const PAGE: usize = 246;
 /// The milliseconds of a wait.
 pub const WAIT_MILLIS: u16 = 800;
 

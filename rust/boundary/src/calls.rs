@@ -2,9 +2,9 @@
 
 use std::sync::atomic::{AtomicUsize, Ordering};
 
-use crate::bytes::WAIT_MILLIS;
+use crate::bytes::{BUFFER, PAGE, WAIT_MILLIS};
 
-/// The eleven functions, on slices.
+/// The twelve functions, on slices.
 pub trait Calls {
     #[allow(clippy::too_many_arguments)]
     fn start(&self, image: &mut [u8], ports: u32, chargers: u32, figures: [u64; 7]) -> u64;
@@ -26,6 +26,7 @@ pub trait Calls {
     fn follower_shown(&self, image: &[u8]) -> u64;
     fn follower_consumer(&self, image: &[u8]) -> u64;
     fn follower_tracked(&self, image: &[u8]) -> u64;
+    fn follower_write_page(&self, image: &[u8], buffer: &mut [u8]) -> u64;
 }
 
 /// Implements [`Calls`] by functions of these names in a module.
@@ -95,6 +96,11 @@ macro_rules! calls {
                 use $module as m;
                 m::follower_tracked(image)
             }
+
+            fn follower_write_page(&self, image: &[u8], buffer: &mut [u8]) -> u64 {
+                use $module as m;
+                m::follower_write_page(image, buffer)
+            }
         }
     };
 }
@@ -137,6 +143,7 @@ pub enum Call {
     FollowerShown,
     FollowerConsumer,
     FollowerTracked,
+    FollowerWritePage(Vec<u8>),
 }
 
 /// The bytes of PSU and charger records.
@@ -232,7 +239,9 @@ pub fn perform(calls: &dyn Calls, image: &[u8], call: &Call) -> Result<After, St
     let empty = Vec::new();
     let (first, second): (&[u8], &[u8]) = match call {
         Call::Open { rows, .. } | Call::Answer { rows, .. } => (&rows.psus, &rows.chargers),
-        Call::WritePacket(buffer) | Call::WritePicture(buffer) => (buffer, &empty),
+        Call::WritePacket(buffer)
+        | Call::WritePicture(buffer)
+        | Call::FollowerWritePage(buffer) => (buffer, &empty),
         Call::FollowerTake(packet) => (packet, &empty),
         _ => (&empty, &empty),
     };
@@ -258,6 +267,7 @@ pub fn perform(calls: &dyn Calls, image: &[u8], call: &Call) -> Result<After, St
         Call::FollowerShown => calls.follower_shown(state.lend()),
         Call::FollowerConsumer => calls.follower_consumer(state.lend()),
         Call::FollowerTracked => calls.follower_tracked(state.lend()),
+        Call::FollowerWritePage(_) => calls.follower_write_page(state.lend(), a.lend()),
     };
     let writes_image = matches!(
         call,
@@ -267,7 +277,10 @@ pub fn perform(calls: &dyn Calls, image: &[u8], call: &Call) -> Result<After, St
             | Call::FollowerStart
             | Call::FollowerTake(_)
     );
-    let writes_buffer = matches!(call, Call::WritePacket(_) | Call::WritePicture(_));
+    let writes_buffer = matches!(
+        call,
+        Call::WritePacket(_) | Call::WritePicture(_) | Call::FollowerWritePage(_)
+    );
     let refused = result as u8 == 0;
     let complain = |what: &str| Err(format!("{what} (result {result:#x})"));
     if ![&state, &a, &b].iter().all(|lent| lent.guards_stand()) {
@@ -319,12 +332,17 @@ fn can_give(call: &Call, result: u64) -> bool {
         Call::FollowerShown => (&[5], &[21]),
         Call::FollowerConsumer => (&[6], &[21]),
         Call::FollowerTracked => (&[7], &[21]),
+        Call::FollowerWritePage(_) => (&[3], &[21, 34]),
     };
     // An opening that closes has given no order, and whatever is answered is one.
     let orders = match call {
         Call::Open { .. } => 0..=0,
         Call::Answer { .. } => 1..=35,
         _ => 0..=35,
+    };
+    let lengths = match call {
+        Call::FollowerWritePage(_) => PAGE..=PAGE,
+        _ => 0..=BUFFER,
     };
     let [outcome, a, b, c, ..] = bytes;
     if outcome == 0 {
@@ -349,7 +367,7 @@ fn can_give(call: &Call, result: u64) -> bool {
                     && orders.contains(&bytes[4])
                     && rest_is_zero(5)
             }
-            3 => a <= 64 && rest_is_zero(2),
+            3 => lengths.contains(&a.into()) && rest_is_zero(2),
             4 => rest_is_zero(1),
             5 => match a {
                 0 => rest_is_zero(2),

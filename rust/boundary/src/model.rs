@@ -1,9 +1,10 @@
-//! Takes compared with rust/model, a model of packets and follower that was written by itself.
+//! Takes and pages compared with rust/model, a model of packets, follower and page that was written by itself.
 
 use link_model::{
     follower::Follower,
     generate,
     packet::{Capability, Display, Event, Notice, flags_byte},
+    page,
 };
 
 use crate::{
@@ -93,6 +94,31 @@ fn packets(stream: &[u8]) -> Vec<&[u8]> {
     packets
 }
 
+/// The model's page of its follower, which must be read as what that shows.
+fn page_of(model: &Follower) -> Result<Vec<u8>, String> {
+    let page = page::page(model);
+    let said = page::read(&page);
+    if said != Some(page::entries(model)) {
+        return Err(format!("the page of {model:?} is read as {said:?}"));
+    }
+    Ok(page)
+}
+
+/// The page of an image is this one.
+fn compare_page(calls: &dyn Calls, image: &[u8], wanted: &[u8]) -> Result<(), String> {
+    let call = Call::FollowerWritePage(vec![0xEE; PAGE + 2]);
+    let after = perform(calls, image, &call)?;
+    if after.written() == wanted {
+        return Ok(());
+    }
+    Err(format!(
+        "gives {:#x} and {:?}; the model's page {:?}",
+        after.result,
+        String::from_utf8_lossy(&after.buffer),
+        String::from_utf8_lossy(wanted)
+    ))
+}
+
 pub fn run(report: &mut Report, calls: &dyn Calls, seed: u64, count: usize) {
     let streams = [
         ("valid packets", generate::packet_stream(seed, count / 4)),
@@ -116,6 +142,7 @@ pub fn run(report: &mut Report, calls: &dyn Calls, seed: u64, count: usize) {
     for (name, stream) in streams {
         let mut model = Follower::new();
         let mut state = image(&model).0;
+        let mut page = page_of(&model);
         for packet in packets(&stream) {
             let before = state.clone();
             let wanted = match model.take(packet) {
@@ -123,11 +150,14 @@ pub fn run(report: &mut Report, calls: &dyn Calls, seed: u64, count: usize) {
                 Err(refusal) => u64::from(refusal) << 8,
             };
             let (wanted_image, wanted_shown) = image(&model);
+            if wanted_image != before {
+                page = page_of(&model);
+            }
             let call = Call::FollowerTake(packet.to_vec());
             let result = perform(calls, &before, &call).and_then(|after| {
                 let shown = perform(calls, &after.image, &Call::FollowerShown)?.result;
                 if (after.result, &after.image, shown) == (wanted, &wanted_image, wanted_shown) {
-                    return Ok(());
+                    return compare_page(calls, &after.image, page.as_ref()?);
                 }
                 Err(format!(
                     "gives {:#x} {} shown {shown:#x}; the model {wanted:#x} {} shown {wanted_shown:#x}",

@@ -8,7 +8,9 @@ use crate::{
 };
 
 /// Lengths around each boundary of an image or buffer.
-const LENGTHS: [usize; 12] = [0, 1, 62, 63, 64, 65, 66, 67, 68, 240, 241, 242];
+const LENGTHS: [usize; 15] = [
+    0, 1, 62, 63, 64, 65, 66, 67, 68, 240, 241, 242, 245, 246, 247,
+];
 
 struct Comparison<'a> {
     report: &'a mut Report,
@@ -53,6 +55,7 @@ impl Comparison<'_> {
             Call::FollowerShown => "follower_shown",
             Call::FollowerConsumer => "follower_consumer",
             Call::FollowerTracked => "follower_tracked",
+            Call::FollowerWritePage(_) => "follower_write_page",
         };
         let result = perform(self.calls, image, call).and_then(|after| {
             if after == plain {
@@ -83,6 +86,13 @@ impl Comparison<'_> {
         let length = self
             .rng
             .pick(&[0, 1, 22, 33, 62, 63, 64, 65, 64, 64, 66, 100]);
+        self.rng.bytes(length)
+    }
+
+    fn page_buffer(&mut self) -> Vec<u8> {
+        let length = self
+            .rng
+            .pick(&[0, 1, 64, 244, 245, 246, 246, 246, 246, 247, 255, 256, 300]);
         self.rng.bytes(length)
     }
 
@@ -195,6 +205,8 @@ impl Comparison<'_> {
         self.compare_and_damage(image, &Call::FollowerShown);
         self.compare_and_damage(image, &Call::FollowerConsumer);
         self.compare_and_damage(image, &Call::FollowerTracked);
+        let buffer = self.page_buffer();
+        self.compare_and_damage(image, &Call::FollowerWritePage(buffer));
     }
 
     /// Every byte of the image changed to several values. What is then accepted is called in every way.
@@ -229,6 +241,7 @@ impl Comparison<'_> {
                     self.compare(&changed, &Call::FollowerTake(packet.to_vec()));
                     self.compare(&changed, &Call::FollowerConsumer);
                     self.compare(&changed, &Call::FollowerTracked);
+                    self.compare(&changed, &Call::FollowerWritePage(vec![0xEE; PAGE]));
                 }
             }
         }
@@ -300,6 +313,16 @@ impl Comparison<'_> {
             let buffer = self.rng.bytes(length);
             self.compare(image, &Call::WritePacket(buffer.clone()));
             self.compare(image, &Call::WritePicture(buffer));
+        }
+    }
+
+    /// Buffers for a page of every length to 300.
+    fn sweep_page_buffers(&mut self, image: &[u8]) {
+        self.report
+            .count("buffers for a page of every length to 300");
+        for length in 0..=300 {
+            let buffer = self.rng.bytes(length);
+            self.compare(image, &Call::FollowerWritePage(buffer));
         }
     }
 
@@ -462,6 +485,7 @@ impl Comparison<'_> {
         match self.rng.below(400) {
             0 => self.sweep_follower(&image, &packet),
             1..=8 => self.sweep_packet(&image, &packet),
+            9..=11 => self.sweep_page_buffers(&image),
             _ => {}
         }
     }

@@ -7,7 +7,7 @@ use crate::{
 };
 
 /// The numbers in the order in which their conditions are looked at (crates/abstract_policy/specs/Refusals.antt).
-const ORDER: [u8; 14] = [20, 21, 22, 23, 24, 25, 26, 27, 28, 29, 30, 31, 32, 33];
+const ORDER: [u8; 15] = [20, 21, 22, 23, 24, 25, 26, 27, 28, 29, 30, 31, 32, 33, 34];
 
 /// A number's place in it.
 fn rank(number: u8) -> usize {
@@ -400,6 +400,11 @@ fn answers(report: &mut Report, calls: &dyn Calls, stands: &[Stand]) {
     demand(report, "answer", &[21, 22, 24, 26], &[]);
 }
 
+/// A buffer as it is before a write.
+fn buffer(length: usize) -> Vec<u8> {
+    (0..length).map(|place| place as u8 ^ 0xA5).collect()
+}
+
 fn writes(report: &mut Report, calls: &dyn Calls, stands: &[Stand]) {
     for stand in stands {
         for (image, is_damaged) in damaged(&stand.image) {
@@ -416,7 +421,7 @@ fn writes(report: &mut Report, calls: &dyn Calls, stands: &[Stand]) {
                 applying.extend(is_damaged.then_some(21));
                 applying.extend(stand.order.map(|_| 25));
                 applying.extend((length < BUFFER).then_some(29));
-                let buffer: Vec<u8> = (0..length as u8).map(|byte| byte ^ 0xA5).collect();
+                let buffer = buffer(length);
                 let call = Call::WritePicture(buffer.clone());
                 judge(report, calls, "write_picture", &image, &call, &applying);
                 applying.extend((stand.number() == 0).then_some(27));
@@ -691,30 +696,20 @@ fn follows(report: &mut Report, calls: &dyn Calls) -> Result<(), String> {
         }
         for (bytes, is_damaged) in &images {
             let applying: &[u8] = if *is_damaged { &[21] } else { &[] };
-            judge(
-                report,
-                calls,
-                "follower_shown",
-                bytes,
-                &Call::FollowerShown,
-                applying,
-            );
-            judge(
-                report,
-                calls,
-                "follower_consumer",
-                bytes,
-                &Call::FollowerConsumer,
-                applying,
-            );
-            judge(
-                report,
-                calls,
-                "follower_tracked",
-                bytes,
-                &Call::FollowerTracked,
-                applying,
-            );
+            for (function, call) in [
+                ("follower_shown", Call::FollowerShown),
+                ("follower_consumer", Call::FollowerConsumer),
+                ("follower_tracked", Call::FollowerTracked),
+            ] {
+                judge(report, calls, function, bytes, &call, applying);
+            }
+            for length in [0, 1, 63, 64, 65, 245, 246, 247, 300] {
+                let mut applying = applying.to_vec();
+                applying.extend((length < PAGE).then_some(34));
+                let call = Call::FollowerWritePage(buffer(length));
+                let function = "follower_write_page";
+                judge(report, calls, function, bytes, &call, &applying);
+            }
         }
         for (packet, refusal, name) in &packets {
             for (bytes, is_damaged) in &images {
@@ -731,6 +726,7 @@ fn follows(report: &mut Report, calls: &dyn Calls) -> Result<(), String> {
     for function in ["follower_shown", "follower_consumer", "follower_tracked"] {
         demand(report, function, &[21], &[]);
     }
+    demand(report, "follower_write_page", &[21, 34], &[]);
     // Of 30 to 33 one is met first: the pairs are counted by packets.
     let names = [
         "follower_take accepted",

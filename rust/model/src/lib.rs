@@ -1,11 +1,12 @@
-//! A plain model of the link: numbers, packets, pictures, the follower and the
-//! `follow` program. It is written from the requirements alone and is used to judge
+//! A plain model of the link: numbers, packets, pictures, the follower, its page and the
+//! programs `follow` and `sheet`. It is written from the requirements alone and is used to judge
 //! another implementation, so it prefers the plainest form over the fastest.
 
 pub mod follower;
 pub mod generate;
 pub mod number;
 pub mod packet;
+pub mod page;
 pub mod program;
 pub mod record;
 

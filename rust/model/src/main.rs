@@ -1,16 +1,17 @@
-//! `model`: the follow program, the state records and the generators.
+//! `model`: the programs follow and sheet, the state records and the generators.
 
 use std::env;
 use std::io::{self, Read, Write};
 use std::process::ExitCode;
 
 use link_model::follower::Follower;
-use link_model::program::{Frames, follow};
+use link_model::program::{Frames, follow, sheet};
 use link_model::record::record;
 use link_model::{generate, packet};
 
 const USAGE: &str = "usage:
   model follow                < stream > lines
+  model sheet                 < stream > page 2> refusals
   model state                 < stream > records
   model state-each            < stream > records
   model gen-packets SEED N    > stream
@@ -25,6 +26,7 @@ fn main() -> ExitCode {
     let words: Vec<&str> = arguments.iter().map(String::as_str).collect();
     let done = match words.as_slice() {
         ["follow"] => input().and_then(|stream| output(&follow(&stream))),
+        ["sheet"] => input().and_then(|stream| write_sheet(&stream)),
         ["state"] => input().and_then(|stream| state(&stream)),
         ["state-each"] => input().and_then(|stream| state_each(&stream)),
         ["gen-short"] => output(&generate::short_stream(false)),
@@ -67,6 +69,13 @@ fn output(bytes: &[u8]) -> io::Result<()> {
     let mut out = io::stdout().lock();
     out.write_all(bytes)?;
     out.flush()
+}
+
+/// The page. Where standard error takes no more it goes on all the same.
+fn write_sheet(stream: &[u8]) -> io::Result<()> {
+    let sheet = sheet(stream);
+    let _ = io::stderr().lock().write_all(&sheet.refused);
+    output(&sheet.page)
 }
 
 /// One record after each packet, all taken by one follower.

@@ -1,7 +1,8 @@
-//! The framing of a stream and the `follow` program.
+//! The framing of a stream and the programs `follow` and `sheet`.
 
 use crate::follower::Follower;
 use crate::number;
+use crate::page::{self, State};
 use crate::{CUT, FIELD};
 
 /// The greatest length of a framed packet.
@@ -43,33 +44,70 @@ pub fn frame(out: &mut Vec<u8>, packet: &[u8]) {
     out.extend(packet);
 }
 
-/// What `follow` writes for this input.
-pub fn follow(input: &[u8]) -> Vec<u8> {
-    let mut out = String::from("take shown state port mw\n");
+/// Hands each packet of the input to a fresh follower and tells what came of it, with its
+/// ordinal. An error of the framing is told like a refused packet, and is the last. Gives the
+/// follower at the end.
+fn take_all(input: &[u8], mut tell: impl FnMut(u64, &Follower, Result<(), u8>)) -> Follower {
     let mut frames = Frames::new(input);
     let mut follower = Follower::new();
-    for ordinal in 1_u64.. {
+    for ordinal in 1.. {
         match frames.next_packet() {
             Ok(None) => break,
-            Ok(Some(packet)) => match follower.take(packet) {
-                Ok(()) => out.push_str(&format!("{ordinal} {}\n", shown(&follower))),
-                Err(refusal) => out.push_str(&format!("{ordinal} refused {refusal}\n")),
-            },
+            Ok(Some(packet)) => {
+                let outcome = follower.take(packet);
+                tell(ordinal, &follower, outcome);
+            }
             Err(refusal) => {
-                out.push_str(&format!("{ordinal} refused {refusal}\n"));
+                tell(ordinal, &follower, Err(refusal));
                 break;
             }
         }
     }
+    follower
+}
+
+/// What `follow` writes for this input.
+pub fn follow(input: &[u8]) -> Vec<u8> {
+    let mut out = String::from("take shown state port mw\n");
+    take_all(input, |ordinal, follower, outcome| {
+        out.push_str(&match outcome {
+            Ok(()) => format!("{ordinal} {}\n", shown(follower)),
+            Err(refusal) => refused(ordinal, refusal),
+        });
+    });
     out.into_bytes()
+}
+
+/// What `sheet` writes for this input: the page on standard output, and the refused packets on
+/// standard error.
+pub struct Sheet {
+    pub page: Vec<u8>,
+    pub refused: Vec<u8>,
+}
+
+pub fn sheet(input: &[u8]) -> Sheet {
+    let mut lines = String::new();
+    let follower = take_all(input, |ordinal, _, outcome| {
+        if let Err(refusal) = outcome {
+            lines.push_str(&refused(ordinal, refusal));
+        }
+    });
+    Sheet {
+        page: page::page(&follower),
+        refused: lines.into_bytes(),
+    }
+}
+
+fn refused(ordinal: u64, refusal: u8) -> String {
+    format!("{ordinal} refused {refusal}\n")
 }
 
 /// n, state, consumer port and its mW, with - for none.
 fn shown(follower: &Follower) -> String {
     match follower {
         Follower::Lost { .. } => String::from("- lost - -"),
-        Follower::Showing { n, display, held } => {
-            let state = if held.is_empty() { "level" } else { "waiting" };
+        Follower::Showing { n, display, .. } => {
+            let state = State::of(follower).word();
             match &display.consumer {
                 None => format!("{n} {state} - -"),
                 Some(consumer) => {

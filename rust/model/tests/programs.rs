@@ -1,10 +1,11 @@
-//! The `follow` program and the records.
+//! The programs `follow` and `sheet`, and the records.
 
 use std::collections::BTreeMap;
 
 use link_model::follower::Follower;
 use link_model::packet::{Capability, Consumer, Display, Event, Notice, flags_of};
-use link_model::program::follow;
+use link_model::page::page;
+use link_model::program::{follow, sheet};
 use link_model::record::{DISPLAY, RECORD, SLOT, record};
 
 const HEADER: &str = "take shown state port mw\n";
@@ -164,6 +165,53 @@ fn ten_packets_have_ordinals_of_two_digits() {
         input.extend(EMPTY_PICTURE);
     }
     assert!(lines(&input).ends_with("9 0 level - -\n10 0 level - -\n"));
+}
+
+// `sheet`.
+
+/// The lines that `sheet` writes on standard error, and whether its page is that of picture 0.
+fn refused(input: &[u8]) -> (String, bool) {
+    let sheet = sheet(input);
+    let mut follower = Follower::new();
+    follower.take(&EMPTY_PICTURE[1..]).unwrap();
+    assert!(sheet.page == page(&follower) || sheet.page == page(&Follower::new()));
+    let lines = String::from_utf8(sheet.refused).unwrap();
+    (lines, sheet.page == page(&follower))
+}
+
+#[test]
+fn a_sheet_of_no_input_is_lost() {
+    assert_eq!(refused(&[]), (String::new(), false));
+}
+
+#[test]
+fn a_sheet_tells_of_refused_packets_alone() {
+    let mut input = vec![1, 3];
+    input.extend(EMPTY_PICTURE);
+    input.extend([1, 1, 3, 1, 0x80, 0, 2, 1, 0, 7, 2, 0, 0, 0, 0, 0, 9]);
+    let lines = "1 refused 32\n3 refused 30\n4 refused 31\n5 refused 32\n6 refused 33\n";
+    assert_eq!(refused(&input), (lines.to_string(), true));
+}
+
+#[test]
+fn what_ends_follow_ends_a_sheet() {
+    for (end, refusal) in [
+        (&[6, 2, 9][..], 30),
+        (&[0x80], 30),
+        (&[0x80, 0x00], 31),
+        (&[0], 32),
+        (&[65], 32),
+    ] {
+        let mut input = EMPTY_PICTURE.to_vec();
+        input.extend(end);
+        assert_eq!(refused(&input), (format!("2 refused {refusal}\n"), true));
+        assert_eq!(refused(end), (format!("1 refused {refusal}\n"), false));
+        if refusal > 30 {
+            // What comes after it is not read.
+            input.extend([6, 2, 9, 0, 0, 0, 0]);
+            assert_eq!(refused(&input), (format!("2 refused {refusal}\n"), true));
+        }
+    }
 }
 
 // Records.

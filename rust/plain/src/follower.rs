@@ -1,11 +1,11 @@
 //! The follower, kept as its image: what it shows, and the packets that it holds.
 
 use crate::{
-    FOLLOWER_IMAGE,
+    FOLLOWER_IMAGE, PAGE,
     group::{
         Capability, Contract, Display, LAST_ANSWER, LAST_REASON, MOST_PORTS, Role, u32_at, zeros,
     },
-    reply,
+    page, reply,
     wire::{
         CONSUMER_CONNECTED, CONSUMER_DISCONNECTED, MOST_NOTICES, MOST_ORDERS, NOTICE,
         PROVIDER_CONNECTED, PROVIDER_DISCONNECTED, Packet, SLOT, UNCONSTRAINED,
@@ -60,6 +60,11 @@ fn slot(image: &Image, k: usize) -> &[u8] {
 
 fn is_held(image: &Image, k: usize) -> bool {
     image[SLOTS + SLOT * k] == 1
+}
+
+/// Whether something is held.
+fn waits(image: &Image) -> bool {
+    (0..HELD).any(|k| is_held(image, k))
 }
 
 fn is_notice(notice: &[u8]) -> bool {
@@ -208,14 +213,9 @@ pub fn shown(image: &Image) -> u64 {
     if image[STATE] == LOST {
         return reply::shown(0, 0, 0, 0);
     }
-    let state = if (0..HELD).any(|k| is_held(image, k)) {
-        2
-    } else {
-        1
-    };
     let display = display(image);
     reply::shown(
-        state,
+        if waits(image) { 2 } else { 1 },
         u8::from(display.unconstrained),
         display.available,
         u32_at(image, NUMBER),
@@ -231,4 +231,13 @@ pub fn consumer(image: &Image) -> u64 {
 
 pub fn tracked(image: &Image) -> u64 {
     reply::tracked(display(image).tracked)
+}
+
+pub fn write_page(image: &Image, page: &mut [u8; PAGE]) {
+    if image[STATE] == LOST {
+        page::lost(page);
+    } else {
+        let number = u32_at(image, NUMBER);
+        page::showing(page, waits(image), number, &display(image));
+    }
 }

@@ -9,6 +9,7 @@
 
 mod follower;
 mod group;
+mod page;
 mod record;
 mod reply;
 mod service;
@@ -27,6 +28,8 @@ pub const PSU_RECORD: usize = 18;
 pub const CHARGER_RECORD: usize = 7;
 /// The least length of a buffer for a packet or picture.
 pub const BUFFER: usize = 64;
+/// The length of a page, and the least length of a buffer for it.
+pub const PAGE: usize = 246;
 
 /// The image of a service, and the service that is written so.
 fn service(image: &mut [u8]) -> Result<(&mut [u8; SERVICE_IMAGE], Service), Refusal> {
@@ -189,4 +192,14 @@ pub fn follower_consumer(image: &[u8]) -> u64 {
 /// The tracked ports shown.
 pub fn follower_tracked(image: &[u8]) -> u64 {
     number(follower_of(image).map(follower::tracked))
+}
+
+/// Writes the page of what the follower shows.
+pub fn follower_write_page(image: &[u8], buffer: &mut [u8]) -> u64 {
+    number((|| {
+        let image = follower_of(image)?;
+        let page = buffer.first_chunk_mut().ok_or(Refusal::Page)?;
+        follower::write_page(image, page);
+        Ok(reply::written(PAGE))
+    })())
 }

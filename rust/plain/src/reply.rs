@@ -20,6 +20,7 @@ pub enum Refusal {
     Number = 31,
     Field = 32,
     LeftOver = 33,
+    Page = 34,
 }
 
 /// A result by its bytes, the low byte first, and two halves.

@@ -1,5 +1,5 @@
 //! A console of three ports and two chargers, and a desk that follows it: a supply is attached and chosen, a device is provided,
-//! and the supply is detached while a charger does not answer. Prints what examples/event.c prints.
+//! and the supply is detached while a charger does not answer. Last comes the desk's page. Prints what examples/event.c prints.
 
 use std::{
     future::Future,
@@ -180,6 +180,13 @@ impl World {
         let length = self.service.write_picture(&mut buffer)?;
         take(&mut self.follower, "picture", &buffer[..length])
     }
+
+    fn page(&self) -> Result<(), Error> {
+        let mut page = [0; PAGE];
+        self.follower.write_page(&mut page)?;
+        print!("{}", String::from_utf8_lossy(&page));
+        Ok(())
+    }
 }
 
 fn run() -> Result<(), Error> {
@@ -232,7 +239,8 @@ fn run() -> Result<(), Error> {
         "port 1 detached, chargers deaf",
         Event::Detached { port: 1 },
     )?;
-    world.picture()
+    world.picture()?;
+    world.page()
 }
 
 fn main() -> ExitCode {

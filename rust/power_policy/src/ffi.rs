@@ -62,6 +62,12 @@ pub mod raw {
         pub fn power_policy_follower_shown(image: *const u8, image_len: usize) -> u64;
         pub fn power_policy_follower_consumer(image: *const u8, image_len: usize) -> u64;
         pub fn power_policy_follower_tracked(image: *const u8, image_len: usize) -> u64;
+        pub fn power_policy_follower_write_page(
+            image: *const u8,
+            image_len: usize,
+            buffer: *mut u8,
+            buffer_len: usize,
+        ) -> u64;
     }
 }
 
@@ -186,4 +192,15 @@ pub fn follower_consumer(image: &[u8]) -> u64 {
 
 pub fn follower_tracked(image: &[u8]) -> u64 {
     unsafe { raw::power_policy_follower_tracked(image.as_ptr(), image.len()) }
+}
+
+pub fn follower_write_page(image: &[u8], buffer: &mut [u8]) -> u64 {
+    unsafe {
+        raw::power_policy_follower_write_page(
+            image.as_ptr(),
+            image.len(),
+            buffer.as_mut_ptr(),
+            buffer.len(),
+        )
+    }
 }

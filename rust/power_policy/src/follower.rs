@@ -1,8 +1,8 @@
 //! The desk's follower, as its image and the calls on it.
 
 use crate::{
-    Consumer, Error, FOLLOWER_IMAGE, Shown, Tracked, ffi,
-    reply::{consumer, done, shown, tracked},
+    Consumer, Error, FOLLOWER_IMAGE, PAGE, Shown, Tracked, ffi,
+    reply::{consumer, done, page, shown, tracked},
 };
 
 /// The desk's follower between calls, as its image.
@@ -81,5 +81,32 @@ impl Follower {
     /// The tracked ports shown, none if lost. It is not refused.
     pub fn tracked(&self) -> Result<Tracked, Error> {
         tracked(ffi::follower_tracked(&self.0))
+    }
+
+    /// Writes the page of what is shown: six lines of text, each a name left in 20 columns, a figure right in 20 and a newline, with a hyphen
+    /// for what is not there. Lost, all but the state is a hyphen. It is not refused.
+    ///
+    /// ```
+    /// use power_policy::*;
+    ///
+    /// let mut follower = Follower::start()?;
+    /// follower.take(&[2, 7, 1, 1, 0xA0, 0x9C, 0x01, 0xB8, 0x17, 2, 0, 0, 2, 4, 12])?;
+    /// let mut page = [0; PAGE];
+    /// follower.write_page(&mut page)?;
+    /// assert_eq!(
+    ///     core::str::from_utf8(&page),
+    ///     Ok("\
+    /// number                                 7
+    /// state                              level
+    /// port                                   1
+    /// millivolts                         20000
+    /// milliamps                           3000
+    /// tracked ports                       4,12
+    /// ")
+    /// );
+    /// # Ok::<(), Error>(())
+    /// ```
+    pub fn write_page(&self, buffer: &mut [u8; PAGE]) -> Result<(), Error> {
+        page(ffi::follower_write_page(&self.0, buffer))
     }
 }

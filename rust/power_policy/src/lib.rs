@@ -66,5 +66,7 @@ pub const SERVICE_IMAGE: usize = 67;
 pub const FOLLOWER_IMAGE: usize = 241;
 /// The length of a buffer that any packet or picture fits in.
 pub const BUFFER: usize = 64;
+/// The length of a follower's page.
+pub const PAGE: usize = 246;
 /// The milliseconds of a wait, which its order carries.
 pub const WAIT_MILLIS: u64 = 800;

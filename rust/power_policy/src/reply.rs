@@ -2,7 +2,10 @@
 
 use core::fmt;
 
-use crate::capability::{ConsumerPowerCapability, PowerCapability, ProviderPowerCapability};
+use crate::{
+    PAGE,
+    capability::{ConsumerPowerCapability, PowerCapability, ProviderPowerCapability},
+};
 
 /// Why a call was turned back. It changed nothing.
 ///
@@ -46,6 +49,8 @@ pub enum Refusal {
     Field = 32,
     /// Bytes after the packet's end.
     LeftOver = 33,
+    /// A buffer under 246 bytes for a page.
+    Page = 34,
 }
 
 impl Refusal {
@@ -65,9 +70,10 @@ impl Refusal {
         Self::Number,
         Self::Field,
         Self::LeftOver,
+        Self::Page,
     ];
 
-    /// 20 to 33.
+    /// 20 to 34.
     pub fn number(self) -> u8 {
         self as u8
     }
@@ -108,6 +114,7 @@ impl Refusal {
             Self::Number => "a number that is not in its shortest form or over its limit",
             Self::Field => "a kind or field that is not as laid out",
             Self::LeftOver => "bytes after the packet's end",
+            Self::Page => "a buffer under 246 bytes for a page",
         }
     }
 }
@@ -531,6 +538,14 @@ pub(crate) fn written(result: u64) -> Result<usize, Error> {
     }
 }
 
+/// A page is written, which has one length.
+pub(crate) fn page(result: u64) -> Result<(), Error> {
+    match written(result)? {
+        PAGE => Ok(()),
+        _ => Err(error(result)),
+    }
+}
+
 pub(crate) fn done(result: u64) -> Result<(), Error> {
     match parts(result).0 {
         [4, ..] => Ok(()),
@@ -578,19 +593,20 @@ mod tests {
 
     #[test]
     fn refusals_by_number() {
-        assert_eq!(Refusal::ALL.len(), 14);
+        assert_eq!(Refusal::ALL.len(), 15);
         for (number, refusal) in (20..).zip(Refusal::ALL.iter().copied()) {
             assert_eq!(refusal.number(), number);
             let result = u64::from(number) << 8;
             let refused = Error::Refused(refusal);
             assert_eq!(reply(result), Err(refused));
             assert_eq!(written(result), Err(refused));
+            assert_eq!(page(result), Err(refused));
             assert_eq!(done(result), Err(refused));
             assert_eq!(shown(result), Err(refused));
             assert_eq!(consumer(result), Err(refused));
             assert_eq!(tracked(result), Err(refused));
         }
-        for result in [0, 19 << 8, 34 << 8, 8, 255] {
+        for result in [0, 19 << 8, 35 << 8, 8, 255] {
             assert_eq!(reply(result), Err(Error::Unknown(result)));
             assert_eq!(done(result), Err(Error::Unknown(result)));
         }
@@ -629,6 +645,8 @@ mod tests {
         assert!(!StateSet(10).contains(StateKind::Detached));
         assert_eq!(reply(0x0B02), Err(Error::Unknown(0x0B02)));
         assert_eq!(written(0xFF03), Ok(255));
+        assert_eq!(page(0xF603), Ok(()));
+        assert_eq!(page(0xF503), Err(Error::Unknown(0xF503)));
     }
 
     #[test]

@@ -401,6 +401,44 @@ fn records_wait() {
     assert_eq!(late.0.orders.iter().filter(read).count(), 6);
 }
 
+/// The figures of a page, without names and blanks.
+fn figures(follower: &Follower) -> Vec<String> {
+    let mut page = [0; PAGE];
+    assert_eq!(follower.write_page(&mut page), Ok(()));
+    let lines = page.split_inclusive(|byte| *byte == b'\n');
+    let figure = |line: &[u8]| {
+        assert_eq!(line.len(), 41);
+        let figure = String::from_utf8(line[20..40].to_vec()).unwrap();
+        figure.trim_start().to_string()
+    };
+    lines.map(figure).collect()
+}
+
+#[test]
+fn pages() {
+    let mut follower = Follower::start().unwrap();
+    assert_eq!(figures(&follower), ["-", "lost", "-", "-", "-", "-"]);
+    follower.take(&[2, 0, 0, 0, 0, 0]).unwrap();
+    assert_eq!(figures(&follower), ["0", "level", "-", "-", "-", "-"]);
+    follower.take(&[1, 2, 0, 0, 1, 3, 15]).unwrap();
+    assert_eq!(figures(&follower), ["0", "waiting", "-", "-", "-", "-"]);
+    let connected = [
+        1, 1, 0, 2, 3, 2, 0, 0, 0x80, 1, 0, 4, 10, 1, 1, 0, 4, 15, 1, 1, 0,
+    ];
+    follower.take(&connected).unwrap();
+    assert_eq!(figures(&follower), ["2", "level", "0", "0", "128", "10"]);
+
+    // The C function takes a longer buffer too, and refuses a shorter one.
+    let mut buffer = [0xEE; PAGE + 1];
+    let written = ffi::follower_write_page(follower.image(), &mut buffer);
+    assert_eq!(written, 3 | (PAGE as u64) << 8);
+    assert_eq!(buffer[PAGE - 1..], [b'\n', 0xEE]);
+    let mut short = [0xEE; PAGE - 1];
+    let refused = ffi::follower_write_page(follower.image(), &mut short);
+    assert_eq!(refused, u64::from(Refusal::Page.number()) << 8);
+    assert_eq!(short, [0xEE; PAGE - 1]);
+}
+
 #[test]
 fn configurations() {
     let granted = |current_ma| PowerCapability {

@@ -4,7 +4,8 @@
 
 pub const SERVICE_IMAGE: usize = plain::SERVICE_IMAGE;
 pub const FOLLOWER_IMAGE: usize = plain::FOLLOWER_IMAGE;
-pub const BUFFER: usize = plain::BUFFER;
+/// The length of the buffer that a write is lent: a page fits, the longest that is written.
+pub const BUFFER: usize = plain::PAGE;
 
 /// The configuration of every service: threshold, unlimited, limited, no minimum. It is the original's default.
 pub const FIGURES: [u64; 7] = [15000, 5000, 3000, 5000, 1500, 0, 0];
@@ -22,10 +23,11 @@ pub enum Function {
     Shown,
     Consumer,
     Tracked,
+    WritePage,
 }
 
 impl Function {
-    pub const ALL: [(Self, &str); 11] = [
+    pub const ALL: [(Self, &str); 12] = [
         (Self::Start, "start"),
         (Self::Open, "open"),
         (Self::Answer, "answer"),
@@ -37,6 +39,7 @@ impl Function {
         (Self::Shown, "follower_shown"),
         (Self::Consumer, "follower_consumer"),
         (Self::Tracked, "follower_tracked"),
+        (Self::WritePage, "follower_write_page"),
     ];
 }
 
@@ -60,7 +63,7 @@ type FollowerStart = unsafe extern "C" fn(*mut u8, usize) -> u64;
 type Take = unsafe extern "C" fn(*mut u8, usize, *const u8, usize) -> u64;
 type Read = unsafe extern "C" fn(*const u8, usize) -> u64;
 
-/// The eleven functions.
+/// The twelve functions.
 pub struct Functions {
     pub name: &'static str,
     start: Start,
@@ -74,6 +77,7 @@ pub struct Functions {
     follower_shown: Read,
     follower_consumer: Read,
     follower_tracked: Read,
+    follower_write_page: Write,
 }
 
 #[cfg(feature = "archive")]
@@ -92,6 +96,7 @@ pub static ARCHIVE: Functions = {
         follower_shown: power_policy_follower_shown,
         follower_consumer: power_policy_follower_consumer,
         follower_tracked: power_policy_follower_tracked,
+        follower_write_page: power_policy_follower_write_page,
     }
 };
 
@@ -108,6 +113,7 @@ pub static PLAIN: Functions = Functions {
     follower_shown: of_plain::follower_shown,
     follower_consumer: of_plain::follower_consumer,
     follower_tracked: of_plain::follower_tracked,
+    follower_write_page: of_plain::follower_write_page,
 };
 
 /// All that is built, the archive first.
@@ -221,6 +227,7 @@ impl Functions {
             Function::Shown => self.read(self.follower_shown, image),
             Function::Consumer => self.read(self.follower_consumer, image),
             Function::Tracked => self.read(self.follower_tracked, image),
+            Function::WritePage => self.write(self.follower_write_page, image, buffer),
         }
     }
 
@@ -252,6 +259,7 @@ impl Functions {
             Function::Shown => (self.follower_shown as *const (), vec![]),
             Function::Consumer => (self.follower_consumer as *const (), vec![]),
             Function::Tracked => (self.follower_tracked as *const (), vec![]),
+            Function::WritePage => (self.follower_write_page as *const (), buffer.to_vec()),
         };
         let mut words = [0; 11];
         for (word, given) in words.iter_mut().zip(image.into_iter().chain(more)) {
@@ -374,5 +382,15 @@ mod of_plain {
 
     pub unsafe extern "C" fn follower_tracked(image: *const u8, image_len: usize) -> u64 {
         plain::follower_tracked(unsafe { from_raw_parts(image, image_len) })
+    }
+
+    pub unsafe extern "C" fn follower_write_page(
+        image: *const u8,
+        image_len: usize,
+        buffer: *mut u8,
+        buffer_len: usize,
+    ) -> u64 {
+        let image = unsafe { from_raw_parts(image, image_len) };
+        plain::follower_write_page(image, unsafe { from_raw_parts_mut(buffer, buffer_len) })
     }
 }

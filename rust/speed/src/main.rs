@@ -5,8 +5,8 @@
 //! its answers, of the fastest round, and the archive's ratio to each other. Images are laid out before the time starts. Then a line for each function
 //! with the most stack that one of all these calls used. With PREFIX only the lines that begin so are measured.
 //!
-//! With `--hold` the readers and the takes that apply no notices are held at that ratio to plain Rust: what is above it in the best of five measurements
-//! ends the program with status 1.
+//! With `--hold` the readers, the page and the takes that apply no notices are held at that ratio to plain Rust: what is above it in the best of five
+//! measurements ends the program with status 1.
 //!
 //! The original runs on its own structs, with devices that answer at once (original/src/lib.rs).
 //!

@@ -258,6 +258,13 @@ fn taken(image: &[u8], packet: &[u8]) -> Vec<u8> {
     image
 }
 
+/// A follower that shows the greatest consumer and the four last ports.
+fn full(image: &[u8]) -> Vec<u8> {
+    let mut image = image.to_vec();
+    image[6..17].copy_from_slice(&[1, 15, 255, 255, 255, 255, 13, 1, 16, 0, 0xF0]);
+    image
+}
+
 impl Stream {
     pub fn new(run: &Run) -> Self {
         let mut buffer = [0; BUFFER];
@@ -343,6 +350,18 @@ impl Stream {
             read("follower_consumer, seven held", Function::Consumer, waiting),
             read("follower_tracked, level", Function::Tracked, level),
             read("follower_tracked, seven held", Function::Tracked, waiting),
+            read("follower_write_page, lost", Function::WritePage, lost),
+            read("follower_write_page, level", Function::WritePage, level),
+            read(
+                "follower_write_page, level, a consumer and four ports",
+                Function::WritePage,
+                &level.iter().map(|image| full(image)).collect::<Vec<_>>(),
+            ),
+            read(
+                "follower_write_page, seven held",
+                Function::WritePage,
+                waiting,
+            ),
         ]
     }
 }
@@ -401,6 +420,24 @@ mod tests {
         assert!(changes[4].1.iter().all(|change| change.0 == [1, 0]));
         assert_eq!(changes[5], (200, vec![([0, 0], 0, false)]));
         assert!(changes[6].1.iter().all(|change| change.0 == [0, 1]));
+    }
+
+    /// Each list of pages is of followers in the state that its name says, and is held.
+    #[test]
+    fn pages() {
+        let stream = Stream::new(&Run::new(4, 8, 300, true));
+        let lists = stream.calls(200);
+        let pages = lists
+            .iter()
+            .filter(|list| list.function == Function::WritePage);
+        let states = pages.map(|list| {
+            let images = list.calls.iter().map(|(image, _)| image);
+            let mut states: Vec<_> = images.map(|image| shown(image).0).collect();
+            states.dedup();
+            (states, list.held)
+        });
+        let states: Vec<_> = states.collect();
+        assert_eq!(states, [0, 1, 1, 2].map(|state| (vec![state], true)));
     }
 
     /// Runs come to every order and to closes with and without an error.

@@ -16,8 +16,8 @@ enum-known-sent-2 c = search needs
 write-picture-requires : tie.Need-write-picture-requires
 write-picture-requires c κs = search needs
 
-written-requires : tie.Need-written-requires
-written-requires c κs = search needs
+stored-requires : tie.Need-stored-requires
+stored-requires c κs = search needs
 
 returns : tie.Need-returns
 returns c =
@@ -28,7 +28,7 @@ same-length c = search needs
 
 returns-2 : tie.Need-returns-2
 returns-2 c =
-    rw (c .written .ensures, c .before .before .before .write-picture .ensures .0, c .before .before .before .write-picture .ensures .1, c .before .before .before .before .before .before .sent2 .given .1) (refl, refl)
+    rw (c .stored .ensures, c .before .before .before .write-picture .ensures .0, c .before .before .before .write-picture .ensures .1, c .before .before .before .before .before .before .sent2 .given .1) (refl, refl)
 
 pub store-picture-spec : {M : Type 1} → statement M
 store-picture-spec =
@@ -38,7 +38,7 @@ store-picture-spec =
     refused-requires
     enum-known-sent-2
     write-picture-requires
-    written-requires
+    stored-requires
     returns
     same-length
     returns-2)

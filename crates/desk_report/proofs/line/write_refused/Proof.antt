@@ -6,7 +6,8 @@ use native.Mathlib.Nat.{zero-add}
 use denote.Ref.{now}
 use lib.ListN.{length, set}
 use Rattle.wire.proofs.Stores.{Put, one, joined}
-use Rattle.desk_report.specs.Text.{decimal, refused}
+use Rattle.abstract_page.specs.Text.{decimal}
+use Rattle.desk_report.specs.Text.{refused}
 use Rattle.desk_report.specs.Line.{refusedBytes}
 use borrow.Author.Needs.{needs}
 use Rattle.desk_report.proofs.line.write_refused.Statement.{statement}

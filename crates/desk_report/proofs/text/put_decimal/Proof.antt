@@ -6,8 +6,8 @@ use native.Mathlib.Omega.{arith}
 use denote.Ref.{now}
 use lib.ListN.{length, drop, take, length-drop}
 use lib.Seq.{sets, take-all}
-use Rattle.desk_report.specs.Text.{decimal}
-use Rattle.desk_report.proofs.Decimal.{length-to}
+use Rattle.abstract_page.specs.Text.{decimal}
+use Rattle.abstract_page.proofs.Decimal.{length-to}
 use borrow.Author.Needs.{needs}
 use Rattle.desk_report.proofs.text.put_decimal.Statement.{statement}
 use Rattle.desk_report.proofs.text.put_decimal.Tie as tie

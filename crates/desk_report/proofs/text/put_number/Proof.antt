@@ -4,7 +4,7 @@ use native.Mathlib.Omega.{arith}
 use denote.Ref.{now}
 use lib.ListN.{set, length-set}
 use Rattle.wire.proofs.Stores.{Put, one, joined, kept}
-use Rattle.desk_report.specs.Text.{decimal}
+use Rattle.abstract_page.specs.Text.{decimal}
 use borrow.Author.Needs.{needs}
 use Rattle.desk_report.proofs.text.put_number.Statement.{statement}
 use Rattle.desk_report.proofs.text.put_number.Tie as tie

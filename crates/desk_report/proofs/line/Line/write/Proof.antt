@@ -6,7 +6,8 @@ use native.Mathlib.Nat.{zero-add}
 use denote.Ref.{now}
 use lib.ListN.{length, set}
 use Rattle.wire.proofs.Stores.{Put, one, joined}
-use Rattle.desk_report.specs.Text.{decimal, number, word}
+use Rattle.abstract_page.specs.Text.{decimal, word}
+use Rattle.desk_report.specs.Text.{number}
 use Rattle.desk_report.specs.Line.{lineBytes, spaced}
 use borrow.Author.Needs.{needs}
 use Rattle.desk_report.proofs.line.Line.write.Statement.{statement}

@@ -1,7 +1,7 @@
 -- A refusal and a length each have their own number.
 use borrow.Author.Needs.{needs}
-use Rattle.bytes_service_calls.proofs.written.Statement.{statement}
-use Rattle.bytes_service_calls.proofs.written.Tie as tie
+use Rattle.bytes_calls.proofs.numbers.stored.Statement.{statement}
+use Rattle.bytes_calls.proofs.numbers.stored.Tie as tie
 
 enum-known-w : tie.Need-enum-known-w
 enum-known-w c = search needs
@@ -23,7 +23,7 @@ returns-2 : tie.Need-returns-2
 returns-2 c =
     rw (c .written .ensures, c .before .before .w2 .given .1)
 
-pub written-spec : {M : Type 1} → statement M
-written-spec =
+pub stored-spec : {M : Type 1} → statement M
+stored-spec =
     tie.close
     (tie.spec enum-known-w refused-requires enum-known-w-2 written-requires returns returns-2)

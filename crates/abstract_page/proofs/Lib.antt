@@ -1,0 +1,4 @@
+pub mod Columns
+pub mod Decimal
+pub mod Read
+pub mod Edges

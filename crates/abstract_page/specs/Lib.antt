@@ -1,0 +1,5 @@
+pub mod Text
+pub mod Page
+pub mod ReadPage
+pub mod PageLaws
+pub mod Edges

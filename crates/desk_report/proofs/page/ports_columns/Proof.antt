@@ -1,0 +1,103 @@
+-- After the turns down to port i the text has the ports from i on.
+use mathlib.Core.Path.{_≡_, refl, sym, ap, _∙_, subst}
+use mathlib.Core.Bool.{Bool, true, false}
+use mathlib.Core.List.{List}
+use Prim.Native.Nat.{ℕ, _-_, _/_, _%_, _^_, _≤_, _<_}
+use native.Mathlib.Omega.{arith}
+use lib.Dec.{eqb, ltb}
+use borrow.Author.Tests.{eqb-true, eqb-false, lt-ltb}
+use borrow.Author.Needs.{needs}
+use Rattle.power_policy_interface.proofs.Conjunction.{and-right}
+use Rattle.interface_display.specs.Providers.{contains}
+use Rattle.interface_display.specs.declared.providers.Providers.{Providers}
+use Rattle.wire.specs.Bytes.{portsBytes}
+use Rattle.abstract_page.specs.Text.{right}
+use Rattle.abstract_page.specs.Page.{commas}
+use Rattle.desk_report.specs.Page.{Holds}
+use Rattle.desk_report.specs.declared.text.Right.{Right}
+use Rattle.desk_report.proofs.Columns.{portsAt, port-there, port-absent, all-ports, none-there, some-there}
+use Rattle.desk_report.proofs.page.ports_columns.Statement.{statement}
+use Rattle.desk_report.proofs.page.ports_columns.Tie as tie
+
+abbrev Inv-loop : tie.InvT-loop
+Inv-loop tracked f₀ i₀ t5 f i = (i ≤ 16) × (f .from ≤ 20) × Holds f (commas (portsAt (tracked .mask) i))
+
+-- at the end all of them
+ended : (t : Providers) (f : Right) (i : ℕ) → i ≤ 0 → Holds f (commas (portsAt (t .mask) i)) → Holds f (commas (portsBytes (t .mask)))
+ended t f i h k =
+    let z : i ≡ 0 = omega arith in
+    subst (λ (s : List ℕ). Holds f (commas s)) (ap (portsAt (t .mask)) z ∙ all-ports (t .mask)) k
+
+abbrev μ-loop : tie.MeasureT-loop
+μ-loop tracked f₀ i₀ t5 f i = i
+
+loop-holds : tie.Need-loop-holds Inv-loop μ-loop
+unfolding right
+loop-holds c = (omega arith, omega arith, record { text = refl; from = refl })
+
+sub-i : tie.Need-sub-i Inv-loop μ-loop
+sub-i c = omega arith
+
+contains-requires : tie.Need-contains-requires Inv-loop μ-loop
+contains-requires c κs = search needs
+
+with-port-requires : tie.Need-with-port-requires Inv-loop μ-loop
+with-port-requires c κs =
+    let l = c .before .before .before .loop in
+    (l .inv .1, omega (arith, l .inv .0, c .before .before .loop-test .taken))
+
+loop-less : tie.Need-loop-less Inv-loop μ-loop
+loop-less c = omega arith
+
+loop-again : tie.Need-loop-again Inv-loop μ-loop
+loop-again c =
+    let x = c .before .before .before .before .before .args in
+    let l = c .before .before .before .before .loop in
+    let p : 0 < l .i = c .before .before .before .loop-test .taken in
+    let t : contains (x .tracked) (l .i - 1) ≡ true = sym (c .before .before .contains .ensures) ∙ c .before .if1 .taken in
+    let b = eqb-true _ 1 (and-right (ltb (l .i - 1) 16) _ t) in
+    let w = c .with-port in
+    (omega arith, w .ensures .0, subst (λ (s : List ℕ). Holds (w .result) (commas s)) (sym (port-there (x .tracked .mask) (l .i) p (l .inv .0) b)) (w .ensures .1 (portsAt (x .tracked .mask) (l .i)) (l .inv .2)))
+
+loop-less-2 : tie.Need-loop-less-2 Inv-loop μ-loop
+loop-less-2 c = omega arith
+
+loop-again-2 : tie.Need-loop-again-2 Inv-loop μ-loop
+loop-again-2 c =
+    let x = c .before .before .before .before .args in
+    let l = c .before .before .before .loop in
+    let p : 0 < l .i = c .before .before .loop-test .taken in
+    let t : contains (x .tracked) (l .i - 1) ≡ false = sym (c .before .contains .ensures) ∙ c .if1 .left in
+    let h : l .i - 1 < 16 = omega (arith, l .inv .0) in
+    let b = eqb-false _ 1 (rw (lt-ltb (l .i - 1) 16 h) at t) in
+    (omega arith, l .inv .1, subst (λ (s : List ℕ). Holds (l .f) (commas s)) (sym (port-absent (x .tracked .mask) (l .i) p (l .inv .0) b)) (l .inv .2))
+
+returns : tie.Need-returns Inv-loop μ-loop
+unfolding right
+returns c =
+    let x = c .before .before .before .before .before .before .args in
+    let l = c .before .before .before .before .before .loop in
+    none-there (l .f) (portsBytes (x .tracked .mask)) (ended (x .tracked) (l .f) (l .i) (c .before .before .before .before .loop-test .left) (l .inv .2)) (c .before .before .if2 .taken)
+
+returns-2 : tie.Need-returns-2 Inv-loop μ-loop
+returns-2 c =
+    let x = c .before .before .before .before .before .args in
+    let l = c .before .before .before .before .loop in
+    some-there (l .f) (portsBytes (x .tracked .mask)) (ended (x .tracked) (l .f) (l .i) (c .before .before .before .loop-test .left) (l .inv .2)) (c .before .if2 .left)
+
+pub ports-columns-spec : {M : Type 1} → statement M
+ports-columns-spec =
+    tie.close
+    (tie.spec
+    Inv-loop
+    μ-loop
+    loop-holds
+    sub-i
+    contains-requires
+    with-port-requires
+    loop-less
+    loop-again
+    loop-less-2
+    loop-again-2
+    returns
+    returns-2)
