@@ -16,9 +16,9 @@ use Rattle.desk_report.specs.declared.desk.Desk.{Desk}
 use Rattle.desk_report.specs.declared.desk.Next.{Next}
 use Rattle.desk_report.specs.declared.line.Line.{Line}
 
--- before any packet; whether a packet that is taken has a line
+-- before any packet; a packet that is taken has a line or not
 abbrev pub fresh : Bool → Desk
-fresh lines = record { lines = lines; packets = 0; follower = follower.fresh }
+fresh lines = record { packets = 0; follower = follower.fresh; lines = lines }
 
 -- the next ordinal; the greatest of 64 bits stays
 abbrev pub counted : ℕ → ℕ
@@ -42,7 +42,7 @@ lineRead lines k f (ReadPacket.Packet p) = lineTaken lines k (lineOf (follower.t
 -- a packet: ordinals count every packet, refused ones too
 
 unfoldable pub takenBy : Desk → List ℕ → Desk
-takenBy d p = record { lines = d .lines; packets = counted (d .packets); follower = afterRead (d .follower) (readPacket p) }
+takenBy d p = record { packets = counted (d .packets); follower = afterRead (d .follower) (readPacket p); lines = d .lines }
 
 unfoldable pub lineFor : Desk → List ℕ → List ℕ
 lineFor d p = lineRead (d .lines) (counted (d .packets)) (d .follower) (readPacket p)
@@ -56,7 +56,7 @@ refusedAt d r = refusedBytes (counted (d .packets)) (refusalOf r)
 abbrev pub deskAt : Desk → List ℕ → Framed → Desk
 deskAt d s Framed.Empty = d
 deskAt d s Framed.Cut = d
-deskAt d s (Framed.Refused n) = record { lines = d .lines; packets = counted (d .packets); follower = d .follower }
+deskAt d s (Framed.Refused n) = record { packets = counted (d .packets); follower = d .follower; lines = d .lines }
 deskAt d s (Framed.Frame used n) = takenBy d (take n (drop used s))
 
 abbrev pub bytesAt : Desk → List ℕ → Framed → List ℕ

@@ -11,11 +11,11 @@ ghost use lib.Seq.{sets};
 ghost use Rattle.desk_report.specs.Desk.{fresh, counted, lineTaken, takenBy, lineFor, steppedDesk, steppedBytes, steppedNext, endBytes};
 
 pub struct Desk {
-    // Whether a packet that is taken has a line; one that is refused always has.
-    pub lines: bool,
     // How many packets there were, refused ones too.
     pub packets: u64,
     pub follower: Follower,
+    // Whether a packet that is taken has a line; one that is refused always has.
+    pub lines: bool,
 }
 
 // So many bytes of a line were written.
@@ -66,9 +66,9 @@ impl Desk {
         ensures { λ r. ⌜ r ≡ fresh lines ⌝ }
     {
         Desk {
-            lines,
             packets: 0,
             follower: Follower::new(),
+            lines,
         }
     }
 
@@ -76,28 +76,27 @@ impl Desk {
     pub fn take(self, bytes: &[u8], out: &mut [u8; 128]) -> Taken
         ensures { λ r. ⌜ (r .desk ≡ takenBy self (now (bytes .entry))) × (r .written ≡ length (lineFor self (now (bytes .entry)))) × (now (out .exit) ≡ sets (now (out .entry)) 0 (lineFor self (now (bytes .entry)))) ⌝ }
     {
-        let lines = self.lines;
         let k = count(self.packets);
         let f = self.follower;
+        let lines = self.lines;
         match packet::read(bytes) {
             ReadPacket::Refused(n) => {
-                let told = write_refused(k, n, out);
                 return Taken {
                     desk: Desk {
-                        lines,
                         packets: k,
                         follower: f,
+                        lines,
                     },
-                    written: told,
+                    written: write_refused(k, n, out),
                 };
             }
             ReadPacket::Packet(p) => {
                 let g = f.take(p);
                 return Taken {
                     desk: Desk {
-                        lines,
                         packets: k,
                         follower: g,
+                        lines,
                     },
                     written: write_taken(lines, k, Line::of(g), out),
                 };
@@ -124,19 +123,18 @@ impl Desk {
                     written: 0,
                 };
             }
-            Framed::Refused(n) => {
-                let lines = self.lines;
+            Framed::Refused(refusal) => {
                 let k = count(self.packets);
                 let f = self.follower;
-                let line = write_refused(k, n, out);
+                let lines = self.lines;
                 return Step {
                     desk: Desk {
-                        lines,
                         packets: k,
                         follower: f,
+                        lines,
                     },
                     next: Next::Stop,
-                    written: line,
+                    written: write_refused(k, refusal, out),
                 };
             }
             Framed::Frame { used, length } => {
