@@ -203,7 +203,8 @@ uint64_t power_policy_follower_tracked(const uint8_t *image, size_t image_len);
 
 /** Writes the page of what is shown, POWER_POLICY_PAGE bytes; bytes of the buffer past it stay. A page is text without a 0 at its end: six
  * lines (number, state, port, millivolts, milliamps, tracked ports) of 40 columns and a newline each, the name left in 20 columns, the
- * figure right in 20, a hyphen for what is not there. Lost, all but the state is a hyphen. Written, or refused: 21, 34. */
+ * figure right in 20, a hyphen for what is not there; tracked ports rise, with only commas between. Lost, all but the state is a hyphen.
+ * Written, or refused: 21, 34. */
 uint64_t power_policy_follower_write_page(const uint8_t *image, size_t image_len, uint8_t *buffer, size_t buffer_len);
 
 /* Configurations. */

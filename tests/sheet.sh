@@ -1,7 +1,7 @@
 #!/bin/bash
 # usage: sheet.sh
 #
-# What the program `sheet` writes: the page on standard output, refused packets on standard error. The pages of the scope's example stand here; every other
+# What the program `sheet` writes: the page on standard output, refused packets on standard error. The pages of the example (PRG-7) stand here; every other
 # stream is also handed to the plain model in rust/model, which was written from the requirements alone, and both outputs are compared: the example cut at and
 # changed in every byte, a recorded stream, lengths that are ill-formed, random streams with damaged packets. Then what no contract speaks of: a standard
 # error or output that takes no more, a standard input that cannot be read or comes in pieces, arguments. Its exit status is always 0.

@@ -77,7 +77,7 @@ reading number returns = record {
   leaves = λ p. [];
 }
 
--- REF-34, S1-9: a page is wanted, and the buffer is under 246 bytes
+-- REF-34, S1-8: a page is wanted, and the buffer is under 246 bytes
 abbrev pub pageConditions : List ℕ → List (Bool × ℕ)
 pageConditions buffer = (ltb (length buffer) pageLength, 34) ∷ []
 

@@ -1,4 +1,5 @@
 pub mod Columns
 pub mod Decimal
 pub mod Read
+pub mod Same
 pub mod Edges

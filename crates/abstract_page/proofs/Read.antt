@@ -25,7 +25,6 @@ use Rattle.abstract_desk.specs.Follower as desk
 use Rattle.abstract_page.specs.Text.{blank, comma, hyphen, newline, decimal, word, left, right}
 use Rattle.abstract_page.specs.Page.{Figure, absent, numbers, state, Entry, commas, text, line, lines, one, millivolts, milliamps, ofConsumer, ports, entries, lostEntries, shownEntries, entriesOf, pageOf, Fits}
 use Rattle.abstract_page.specs.ReadPage.{trimFront, trimEnd, same, readNumbers, readFigure, readLine, readLines, readPage}
-use Rattle.abstract_page.specs.PageLaws.{PageLaws}
 use Rattle.abstract_page.proofs.Columns.{left-length, right-length, right-short, trim-blanks}
 use Rattle.abstract_page.proofs.Decimal.{Begins, begins-more, decimal-begins, decimal-read, length-short}
 
@@ -104,6 +103,14 @@ line-length e =
     let l = left 20 (e .name) in
     let r = right 20 (text (e .figure)) in
     omega (arith, length-append l (r ++ (newline ∷ [])), length-append r (newline ∷ []), left-length 20 (e .name), right-length 20 (text (e .figure)))
+
+pub line-ends : (e : Entry) → drop 40 (line e) ≡ newline ∷ []
+unfolding line
+line-ends e =
+    let l = left 20 (e .name) in
+    let r = right 20 (text (e .figure)) in
+    let k : length (l ++ r) ≡ 40 = omega (arith, length-append l r, left-length 20 (e .name), right-length 20 (text (e .figure))) in
+    ap (drop 40) (sym (append-assoc l r (newline ∷ []))) ∙ drop-at (l ++ r) (newline ∷ []) 40 k
 
 record EntryFits (e : Entry) : Type 0 where
   pub name : trimEnd (left 20 (e .name)) ≡ e .name
@@ -223,17 +230,10 @@ pub shown-read : (s : State) (n : ℕ) (d : Display) → pictureFits (record { n
 unfolding readPage
 shown-read s n d h = lines-read (shownEntries s n d) (shown-fit s n d h)
 
-page-length : (p : desk.Follower) → length (pageOf p) ≡ pageLength
+pub page-length : (p : desk.Follower) → length (pageOf p) ≡ pageLength
 page-length (desk.lost floor) = lost-length
 page-length (desk.showing n d held) = shown-length (desk.state (desk.showing n d held)) n d
 
-page-read : (p : desk.Follower) → Fits p → readPage (pageOf p) ≡ entriesOf p
+pub page-read : (p : desk.Follower) → Fits p → readPage (pageOf p) ≡ entriesOf p
 page-read (desk.lost floor) h = lost-read
 page-read (desk.showing n d held) h = shown-read (desk.state (desk.showing n d held)) n d h
-
-pub page-laws : PageLaws
-page-laws = record {
-  length = page-length;
-  read = page-read;
-  same = λ p q h k e. sym (page-read p h) ∙ (ap readPage e ∙ page-read q k);
-}

@@ -42,7 +42,7 @@ abbrev pub lines : List Entry → List ℕ
 lines [] = []
 lines (e ∷ l) = line e ++ lines l
 
--- S1-2: number
+-- number
 abbrev pub numberName : List ℕ
 numberName = 110 ∷ 117 ∷ 109 ∷ 98 ∷ 101 ∷ 114 ∷ []
 
@@ -66,7 +66,7 @@ milliampsName = 109 ∷ 105 ∷ 108 ∷ 108 ∷ 105 ∷ 97 ∷ 109 ∷ 112 ∷ 1
 abbrev pub trackedName : List ℕ
 trackedName = 116 ∷ 114 ∷ 97 ∷ 99 ∷ 107 ∷ 101 ∷ 100 ∷ 32 ∷ 112 ∷ 111 ∷ 114 ∷ 116 ∷ 115 ∷ []
 
--- the six entries, with their figures in this order
+-- S1-2: the six entries, in this order
 abbrev pub entries : Figure → Figure → Figure → Figure → Figure → Figure → List Entry
 entries number said port mv ma tracked =
     record { name = numberName; figure = number }
@@ -100,7 +100,7 @@ ports (p ∷ l) = numbers (p ∷ l)
 abbrev pub lostEntries : List Entry
 lostEntries = entries absent (state State.Lost) absent absent absent absent
 
--- showing n, level or waiting
+-- showing n, level or waiting; S1-4: `portsBytes` has the tracked ports rising
 abbrev pub shownEntries : State → ℕ → Display → List Entry
 shownEntries s n d =
     entries (one n) (state s) (ofConsumer (λ c. c .psu) (d .consumer)) (ofConsumer millivolts (d .consumer)) (ofConsumer milliamps (d .consumer))
@@ -114,7 +114,7 @@ entriesOf (desk.showing n d held) = shownEntries (desk.state (desk.showing n d h
 abbrev pub pageOf : desk.Follower → List ℕ
 pageOf p = lines (entriesOf p)
 
--- what is shown is within what a picture has, as in every follower that takes have led to; then no text is longer than its columns
+-- what is shown is within what a picture has, as in every follower after any takes (promise Claim); then no text is longer than its columns
 abbrev pub Fits : desk.Follower → Type 0
 Fits (desk.lost floor) = Unit {0}
 Fits (desk.showing n d held) = pictureFits (record { number = n; display = d }) ≡ true

@@ -1,12 +1,12 @@
 -- Text of `follow` as ASCII bytes: a number or a dash, and its fixed words.
 use Prim.Native.Nat.{ℕ}
 use mathlib.Core.List.{List, [], _∷_}
-use Rattle.abstract_page.specs.Text.{decimal}
+use Rattle.abstract_page.specs.Text.{hyphen, decimal}
 use Rattle.desk_follower.specs.declared.OptionNumber.{OptionNumber}
 
--- a dash for none
+-- a hyphen for none
 abbrev pub number : OptionNumber → List ℕ
-number OptionNumber.None = 45 ∷ []
+number OptionNumber.None = hyphen ∷ []
 number (OptionNumber.Some n) = decimal n
 
 -- PRG-2: "take shown state port mw" and a line feed

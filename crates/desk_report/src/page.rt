@@ -21,7 +21,7 @@ ghost use Rattle.power_policy_interface.specs.Limits.{pageLength};
 ghost use Rattle.wire.specs.Bytes.{portsBytes};
 ghost use Rattle.wire_writer.specs.Stored.{storedFrom, writtenFrom};
 ghost use Rattle.abstract_page.specs.Text.{newline, decimal, word, right};
-ghost use Rattle.abstract_page.specs.Page.{commas, text, ports};
+ghost use Rattle.abstract_page.specs.Page.{absent, commas, text, ports};
 ghost use Rattle.desk_report.specs.Page.{figureOf, pageBytes, lostPage, showingPage, pageFor, Holds};
 
 // What a page says. Only what is not there is absent: 0 is a figure.
@@ -101,13 +101,20 @@ impl Page {
 
 // A figure right in 20 columns.
 
-// A number, or a hyphen for none.
+// A hyphen for what is not there.
+fn absent_columns() -> [u8; 20]
+    ensures { λ r. ⌜ r ≡ right 20 (text absent) ⌝ }
+{
+    *b"                   -"
+}
+
+// A number.
 fn number_columns(n: OptionNumber) -> [u8; 20]
     ensures { λ r. ⌜ r ≡ right 20 (text (figureOf n)) ⌝ }
 {
     match n {
         OptionNumber::None => {
-            return *b"                   -";
+            return absent_columns();
         }
         OptionNumber::Some(v) => {
             let d = digits_of(v as u64);
@@ -168,7 +175,7 @@ fn with_port(f: Right, port: u8) -> Right
     push_port(push(f, b','), port)
 }
 
-// The tracked ports, rising, or a hyphen for none; the last is stored first.
+// The tracked ports, rising; the last is stored first.
 fn ports_columns(tracked: Providers) -> [u8; 20]
     ensures { λ r. ⌜ r ≡ right 20 (text (ports (portsBytes (tracked .mask)))) ⌝ }
 {
@@ -184,7 +191,7 @@ fn ports_columns(tracked: Providers) -> [u8; 20]
         }
     }
     if f.from == 20 {
-        return *b"                   -";
+        return absent_columns();
     }
     let text = f.text;
     text

@@ -47,7 +47,7 @@ use Rattle.promise.specs.Promise.{Follows, FollowerStarts}
 use Rattle.promise.specs.Runs.{Says}
 use Rattle.promise.proofs.Pages.{page-is, page-says}
 
-taken-number : (b : List ℕ) (f : Follower) (y : ReadPacket) → takenCall b f y .number ≡ takeTo y
+pub taken-number : (b : List ℕ) (f : Follower) (y : ReadPacket) → takenCall b f y .number ≡ takeTo y
 taken-number b f (ReadPacket.Refused n) = refl
 taken-number b f (ReadPacket.Packet p) = refl
 
@@ -83,15 +83,15 @@ module _ (x : List ℕ) (e : length x ≡ followerLength) (l : List DeskCall) (a
 
 -- what the code's follower tells is what the abstract one does
 
-shown-by : (s : Shown) (h : Held) (t : State) → t ≡ paper.state (seenAt s h) → shownAs t s ≡ shownBy (seenAt s h)
+pub shown-by : (s : Shown) (h : Held) (t : State) → t ≡ paper.state (seenAt s h) → shownAs t s ≡ shownBy (seenAt s h)
 shown-by (Shown.Lost floor) h t e = refl
 shown-by (Shown.Picture s) h t e = ap (λ (u : State). shownNumber u (s .number) (s .display)) e
 
-consumer-by : (s : Shown) (h : Held) → consumerNumber (consumerOf s) ≡ consumerBy (seenAt s h)
+pub consumer-by : (s : Shown) (h : Held) → consumerNumber (consumerOf s) ≡ consumerBy (seenAt s h)
 consumer-by (Shown.Lost floor) h = refl
 consumer-by (Shown.Picture s) h = refl
 
-tracked-by : (s : Shown) (h : Held) → trackedIn s ≡ trackedBy (seenAt s h)
+pub tracked-by : (s : Shown) (h : Held) → trackedIn s ≡ trackedBy (seenAt s h)
 tracked-by (Shown.Lost floor) h = refl
 tracked-by (Shown.Picture s) h = refl
 
@@ -112,7 +112,7 @@ module _ (l : List (List ℕ)) (a : EachBytes l) where
 
 -- a reader is never turned back
 
-free : (n w : ℕ) → n % 256 ≡ w → (w ≡ 0 → ⊥) → Refuses [] n
+pub free : (n w : ℕ) → n % 256 ≡ w → (w ≡ 0 → ⊥) → Refuses [] n
 free n w e d = record { first = first [] refl; turned-back = λ z. absurd (z refl); accepted = λ z k. d (sym e ∙ k) }
 
 shown-low : (p : paper.Follower) → shownBy p % 256 ≡ 5

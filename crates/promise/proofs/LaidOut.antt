@@ -37,6 +37,7 @@ use Rattle.promise_invariant.proofs.Good.{Good}
 use Rattle.promise_invariant.proofs.Bound.{good-orders, good-rest}
 use Rattle.abstract_calls.specs.Lent.{pageCall}
 use Rattle.desk_report.specs.Page.{pageBytes, pageFor}
+use Rattle.promise.proofs.AnyBytes.{desk-refuses, desk-turned-back, readers-on}
 use Rattle.promise.proofs.Pages.{page-is, page-says}
 use Rattle.bytes_calls.specs.Calls.{takenCall, shownAs, trackedIn}
 use Rattle.abi_functions.specs.Ours.{functions}
@@ -101,6 +102,9 @@ laid-out = record {
       (good-orders s z, good-rest s z);
   no-follower = no-follower;
   takes-on = takes-on;
+  desk-refuses = desk-refuses;
+  desk-turned-back = desk-turned-back;
+  readers-on = λ b f h e. readers-on b f e (follower-read-fits b f h e);
   page-on = λ b buffer f h e. page-is b f e (follower-read-fits b f h e) buffer;
   page-read = λ b f h e. page-says b f e (follower-read-fits b f h e);
   refuses = call-refuses;

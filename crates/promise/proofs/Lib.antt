@@ -3,6 +3,7 @@ pub mod Shown
 pub mod Pages
 pub mod Linked
 pub mod Desk
+pub mod AnyBytes
 pub mod Starts
 pub mod Promised
 pub mod OnlyOne

@@ -45,14 +45,16 @@ use Rattle.bytes_calls.specs.Calls.{readerCall, shownAs, trackedIn}
 use Rattle.abi_functions.specs.Ours.{functions}
 use Rattle.abstract_calls.proofs.Lists.{packets-on}
 use Rattle.abstract_page.specs.Page.{entriesOf}
-use Rattle.promise_link.specs.Alike.{seenAt}
-use Rattle.promise.proofs.Pages.{page-says, says-either}
+use Rattle.promise_link.specs.Alike.{heldFrom, seenAt, seen}
+use Rattle.promise_link.proofs.Alike.{alike}
+use Rattle.abstract_desk.specs.Follower as paper
+use Rattle.promise.proofs.Pages.{page-says, shown-either}
 use Rattle.promise_calls.proofs.Takes.{AllKeep, all-keep, desk-fits, desk-read}
 use Rattle.promise_calls.proofs.Written.{Sent, bytes-left, packet-sent, picture-sent}
 use Rattle.promise.specs.Runs.{PacketOf, PictureOf, Handed, packet, picture, turned-back, AllHanded, In, Comes, NothingAbove, NoEventAbove, Says, Lost, Shows}
 use Rattle.promise.specs.Promise.{Link}
 use Rattle.promise.proofs.Sent.{packetOf, packet-is, picture-is}
-use Rattle.promise.proofs.Shown.{shown-number, not-lost, level-or-waiting}
+use Rattle.promise.proofs.Shown.{shown-number, not-lost}
 
 -- a packet is no picture
 
@@ -200,6 +202,9 @@ module _ (s : Service) (good : Good s) (demands : run.Demands s) (calls : List B
         subst (λ (v : Shown). Says functions (desk functions x l) (entriesOf (seenAt v (followerAfter (packetsOf l) .held)))) e
         (page-says (desk functions x l) (followerAfter (packetsOf l)) (desk-read x size l keep) (desk-fits x size l keep))
 
+    state-is : stateOf (followerAfter (packetsOf l)) ≡ paper.state (seen (followerAfter (packetsOf l)))
+    state-is = alike .state (followerAfter (packetsOf l)) (fits (followerAfter (packetsOf l)) (desk-fits x size l keep) .formed)
+
     lost-by : taken.FollowerLost (followerAfter (packetsOf l)) → Lost functions (desk functions x l)
     lost-by z = record {
       shown = told (λ f u. shownAs (stateOf f) u) (Shown.Lost (z .0)) (z .1);
@@ -218,11 +223,10 @@ module _ (s : Service) (good : Good s) (demands : run.Demands s) (calls : List B
         let r : functions .shown (desk functions x l) ≡ shownNumber (stateOf (followerAfter (packetsOf l))) n d =
         told (λ f u. shownAs (stateOf f) u) (Shown.Picture (record { number = n; display = d })) e in
         record {
-          shown = level-or-waiting (functions .shown (desk functions x l)) n d (followerAfter (packetsOf l)) e r;
+          shown = shown-either (desk functions x l) n d (heldFrom (followerAfter (packetsOf l) .held) (n + 2) 7) (r ∙ ap (λ (t : State). shownNumber t n d) (state-is ∙ ap (λ (u : Shown). paper.state (seenAt u (followerAfter (packetsOf l) .held))) e)) (says (Shown.Picture (record { number = n; display = d })) e);
           number = ap (λ (y : ℕ). y / 4294967296) r ∙ shown-number (stateOf (followerAfter (packetsOf l))) n d (small n d e);
           consumer = told (λ f u. consumerNumber (consumerOf u)) (Shown.Picture (record { number = n; display = d })) e;
           tracked = told (λ f u. trackedIn u) (Shown.Picture (record { number = n; display = d })) e;
-          page = says-either (desk functions x l) n d _ (says (Shown.Picture (record { number = n; display = d })) e);
         }
 
     -- lost or shown, it is the follower that is: it can be nothing else
@@ -233,12 +237,12 @@ module _ (s : Service) (good : Good s) (demands : run.Demands s) (calls : List B
     by-lost : Lost functions (desk functions x l) → taken.FollowerLost (followerAfter (packetsOf l))
     by-lost z =
         ⊎-elim (λ y. y)
-        (λ y. absurd (not-lost (functions .shown (desk functions x l)) (y .0) (source .held (y .0)) (shows-by (y .0) (source .held (y .0)) (y .2) .shown) (z .shown)))
+        (λ y. absurd (not-lost functions (desk functions x l) (y .0) (source .held (y .0)) (shows-by (y .0) (source .held (y .0)) (y .2) .shown) (z .shown)))
         is
 
     by-shows : (n : ℕ) (d : Display) → Shows functions (desk functions x l) n d → taken.FollowerShows (followerAfter (packetsOf l)) n (source .held n)
     by-shows n d z =
-        ⊎-elim (λ y. absurd (not-lost (functions .shown (desk functions x l)) n d (z .shown) (lost-by y .shown)))
+        ⊎-elim (λ y. absurd (not-lost functions (desk functions x l) n d (z .shown) (lost-by y .shown)))
         (λ y. subst (λ (m : ℕ). taken.FollowerShows (followerAfter (packetsOf l)) m (source .held m)) (sym (shows-by (y .0) (source .held (y .0)) (y .2) .number) ∙ z .number) (y .2))
         is
 

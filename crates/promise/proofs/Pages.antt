@@ -1,5 +1,5 @@
 -- Our page of an image is the definition's page of the follower that it is the image of, seen as the abstract one; and so it is read as what that shows.
-use mathlib.Core.Path.{_≡_, refl, ap, _∙_}
+use mathlib.Core.Path.{_≡_, ap, _∙_, subst}
 use mathlib.Core.Bool.{Bool, true, cond}
 use mathlib.Core.List.{List, [], _∷_}
 use mathlib.Core.Logic.{_⊎_, inl, inr}
@@ -10,13 +10,15 @@ use Rattle.interface_display.specs.declared.Display.{Display}
 use Rattle.interface_display.specs.declared.packet.EventPacket.{EventPacket}
 use Rattle.interface_display.specs.declared.State.{State}
 use Rattle.abstract_desk.specs.Follower as paper
+use Rattle.abstract_desk.specs.Takes.{paperAfter, EachBytes}
 use Rattle.abstract_page.specs.Page.{lines, shownEntries, entriesOf, pageOf, Fits}
 use Rattle.abstract_page.specs.ReadPage.{readPage}
-use Rattle.abstract_page.proofs.Read.{page-laws}
+use Rattle.abstract_page.proofs.Same.{page-laws}
 use Rattle.abstract_calls.specs.Called.{Called, refusedCall}
 use Rattle.abstract_calls.specs.Lent.{pageCall}
+use Rattle.abstract_calls.specs.Numbers.{shownNumber}
 use Rattle.abstract_calls.proofs.Pages.{page-said}
-use Rattle.desk_follower.specs.Follower.{stateOf}
+use Rattle.desk_follower.specs.Follower.{fresh, stateOf}
 use Rattle.desk_follower.specs.declared.Follower.{Follower}
 use Rattle.desk_follower.specs.declared.Shown.{Shown}
 use Rattle.desk_follower.specs.declared.held.Held.{Held}
@@ -25,12 +27,14 @@ use Rattle.desk_report.proofs.Says.{lost-says, showing-says}
 use Rattle.bytes_follower_image.specs.Fits.{shownFits, imageFits}
 use Rattle.bytes_follower_image.specs.Image.{followerFrom}
 use Rattle.bytes_follower_image.specs.declared.ReadFollower.{ReadFollower}
-use Rattle.bytes_follower_image.proofs.OneImage.{fits}
+use Rattle.bytes_follower_image.proofs.OneImage.{fits, fresh-fits}
 use Rattle.bytes_calls.specs.Calls.{writePageCall}
 use Rattle.abi_functions.specs.Ours.{functions}
 use Rattle.promise_link.specs.Alike.{seenAt, seen}
+use Rattle.promise_link.specs.Link.{followerAfter}
 use Rattle.promise_link.proofs.Alike.{alike}
-use Rattle.promise.specs.Runs.{Says}
+use Rattle.promise_calls.proofs.Takes.{each-keeps, takes-fit}
+use Rattle.promise.specs.Runs.{Says, ShownAs}
 
 page-by : (s : Shown) (h : Held) (t : State) → t ≡ paper.state (seenAt s h) → pageBytes (pageAt t s) ≡ pageOf (seenAt s h)
 page-by (Shown.Lost floor) h t e = ap lines lost-says
@@ -51,8 +55,14 @@ module _ (b : List ℕ) (f : Follower) (r : followerFrom b ≡ record { ok = tru
       ap (λ (c : Called). readPage (take pageLength (c .bytes))) (page-is buffer)
       ∙ page-said (entriesOf (seen f)) (page-laws .length (seen f)) (page-laws .read (seen f) (fits-by (f .shown) (f .held) (fits f i .shown))) buffer h
 
--- showing, it says level or waiting
-pub says-either : (b : List ℕ) (n : ℕ) (d : Display) (l : List EventPacket) → Says functions b (entriesOf (paper.showing n d l))
-    → Says functions b (shownEntries State.Level n d) ⊎ Says functions b (shownEntries State.Waiting n d)
-says-either b n d [] s = inl s
-says-either b n d (e ∷ l) s = inr s
+-- showing, it is level or waiting, by the reader and by the page
+pub shown-either : (b : List ℕ) (n : ℕ) (d : Display) (l : List EventPacket) → functions .shown b ≡ shownNumber (paper.state (paper.showing n d l)) n d
+    → Says functions b (entriesOf (paper.showing n d l)) → ShownAs functions b State.Level n d ⊎ ShownAs functions b State.Waiting n d
+shown-either b n d [] r s = inl (r, s)
+shown-either b n d (e ∷ l) r s = inr (r, s)
+
+-- after any takes what is shown is within what a picture has
+pub reached-fit : (l : List (List ℕ)) → EachBytes l → Fits (paperAfter l)
+reached-fit l a =
+    let i = takes-fit l fresh (each-keeps l a) fresh-fits in
+    subst (λ (p : paper.Follower). Fits p) (alike .takes-alike l a) (fits-by (followerAfter l .shown) (followerAfter l .held) (fits (followerAfter l) i .shown))

@@ -345,7 +345,7 @@ tracks-four = refl
 -- the programs
 
 not-always-lost : Promise alwaysLost → ⊥
-not-always-lost p = not-lost lostNumber 0 (held (g 1) calls 0) (shows-0 alwaysLost p .shown) refl
+not-always-lost p = not-lost alwaysLost (desk alwaysLost X (takePacket y0 ∷ [])) 0 (held (g 1) calls 0) (shows-0 alwaysLost p .shown) refl
 
 not-deaf : Promise deaf → ⊥
 not-deaf p =

@@ -13,6 +13,8 @@ use Rattle.power_policy_service.specs.TypeC.{TypeC}
 use Rattle.power_policy_service.specs.declared.config.Config.{Config}
 use Rattle.power_policy_service.specs.declared.config.OptionConfig.{OptionConfig}
 use Rattle.abstract_policy.specs.Refusals.{rank, Applies, First, Base, Lowest}
+use Rattle.abstract_desk.specs.Takes.{paperAfter, EachBytes}
+use Rattle.abstract_page.specs.Page.{Fits}
 use Rattle.abstract_page.specs.PageLaws.{PageLaws}
 use Rattle.abstract_calls.specs.Functions.{Functions, Arguments, arguments, configOf}
 use Rattle.abi_functions.specs.Ours.{functions}
@@ -45,7 +47,9 @@ pub record Claim : Type 0 where
   -- REF-2, the lowest that applies: among the base's numbers the order in which conditions are looked at is that of size
   pub rank-size : (n m : ℕ) → Base n → Base m → (rank n ≤ rank m) ↔ (n ≤ m)
   pub lowest : (l : List (Bool × ℕ)) (n : ℕ) → ((m : ℕ) → Applies m l → Base m) → First l n → Lowest l n
-  -- S1-1, S1-7: a page has 246 bytes and is read as what it says, whatever follower it is of
+  -- S1-1, S1-7: a page has six lines of 40 columns and is read as what it says, of every follower whose figures a picture can have,
   pub pages : PageLaws
+  -- which every follower has after any takes
+  pub pages-fit : (l : List (List ℕ)) → EachBytes l → Fits (paperAfter l)
   pub documents : Documents
   pub layout : Layout

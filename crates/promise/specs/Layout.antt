@@ -39,8 +39,8 @@ use Rattle.abstract_calls.specs.Lent.{pageCall}
 use Rattle.abstract_calls.specs.Numbers.{refusedNumber}
 use Rattle.abstract_calls.specs.OneToOne.{OneToOne}
 use Rattle.abstract_calls.specs.ServiceCall.{ByteCall}
-use Rattle.abstract_calls.specs.Calls.{bufferIn, CallsBytes, imageAfter, returned, bufferAfter, images, desk, packetsOf, DeskBytes}
-use Rattle.abstract_calls.specs.DeskCall.{DeskCall}
+use Rattle.abstract_calls.specs.Calls.{bufferIn, CallsBytes, imageAfter, returned, bufferAfter, images, deskAfter, deskReturned, deskBufferIn, deskBufferAfter, desk, packetsOf, DeskBytes}
+use Rattle.abstract_calls.specs.DeskCall.{DeskCall, shownBy, consumerBy, trackedBy}
 use Rattle.abstract_calls.specs.Functions.{Arguments, configOf}
 use Rattle.abstract_calls.specs.Definition.{defined, Refuses}
 use Rattle.bytes_service_image.specs.Image.{serviceBytes, serviceFrom}
@@ -51,7 +51,7 @@ use Rattle.bytes_follower_image.specs.Fits.{imageFits}
 use Rattle.bytes_follower_image.specs.Image.{followerBytes, followerFrom}
 use Rattle.bytes_calls.specs.Calls.{takenCall}
 use Rattle.abi_functions.specs.Ours.{functions}
-use Rattle.promise_calls.specs.Refused.{conditions}
+use Rattle.promise_calls.specs.Refused.{conditions, deskConditions}
 use Rattle.promise.specs.Promise.{startRefused, registers}
 use Rattle.promise.specs.Runs.{Says}
 
@@ -75,7 +75,12 @@ pub record Layout : Type 0 where
       (b : List ℕ) (s : Service) → AllBytes b → serviceFrom b ≡ ReadService.Read s →
       (s .orders ≤ 3 + 4 * s .registration .chargers)
       × AtMost (4 + 4 * s .registration .chargers - s .orders) (standsAt (s .registration) (s .phase) (s .memory))
-  -- A take, the readers and the page on any bytes: 21 where they are no image, and then the bytes stay; else what the definition's follower does.
+  -- The desk's calls on any bytes: refused by the first number that applies, 21 before all others,
+  pub desk-refuses : (b : List ℕ) (c : DeskCall) → Refuses (deskConditions b c) (deskReturned functions b c)
+  -- and then every byte stays.
+  pub desk-turned-back :
+      (b : List ℕ) (c : DeskCall) → deskReturned functions b c % 256 ≡ 0 → (deskAfter functions b c ≡ b) × (deskBufferAfter functions b c ≡ deskBufferIn c)
+  -- 21 where they are no image.
   pub no-follower :
       (b y : List ℕ) → followerFrom b .ok ≡ false →
       (functions .take b y ≡ refusedCall 21 b)
@@ -83,6 +88,10 @@ pub record Layout : Type 0 where
       × ((functions .consumer b ≡ refusedNumber 21) × ((functions .tracked b ≡ refusedNumber 21) × (functions .write-page b y ≡ refusedCall 21 y))))
   pub takes-on :
       (b y : List ℕ) (f : Follower) → followerFrom b ≡ record { ok = true; follower = f } → functions .take b y ≡ takenCall b f (readPacket y)
+  -- On an image, reached or not, a take does what desk_follower's does (above), the readers and the page tell the abstract follower that it is the image of.
+  pub readers-on :
+      (b : List ℕ) (f : Follower) → AllBytes b → followerFrom b ≡ record { ok = true; follower = f } →
+      (functions .shown b ≡ shownBy (seen f)) × (functions .consumer b ≡ consumerBy (seen f)) × (functions .tracked b ≡ trackedBy (seen f))
   pub page-on :
       (b buffer : List ℕ) (f : Follower) → AllBytes b → followerFrom b ≡ record { ok = true; follower = f } → functions .write-page b buffer ≡ pageCall (pageOf (seen f)) buffer
   -- S1-7: the page of every image that is accepted, reached or not, is read as what its follower shows.

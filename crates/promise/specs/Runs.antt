@@ -71,9 +71,13 @@ module _ (f : Functions) (image : List ℕ) (g : Registration) (calls : List Byt
   abbrev pub NoEventAbove : ℕ → List (List ℕ) → Type 0
   NoEventAbove m l = (n : ℕ) (y : List ℕ) → In y l → PacketOf n y → n ≤ m
 
--- S1-7: what is read from the page that is written of it, whatever the buffer
+-- S1-7: what is read from the page that is written of it, whatever the buffer of 246 bytes or more
 abbrev pub Says : Functions → List ℕ → List Entry → Type 0
 Says f b l = (buffer : List ℕ) → pageLength ≤ length buffer → readPage (take pageLength (f .write-page b buffer .bytes)) ≡ l
+
+-- the reader tells this state and number with both figures, and the page says the same
+abbrev pub ShownAs : Functions → List ℕ → State → ℕ → Display → Type 0
+ShownAs f b s n d = (f .shown b ≡ shownNumber s n d) × Says f b (shownEntries s n d)
 
 -- what an image of the follower shows is what the three readers return and the page says
 
@@ -86,9 +90,8 @@ pub record Lost (f : Functions) (b : List ℕ) : Type 0 where
 
 pub record Shows (f : Functions) (b : List ℕ) (n : ℕ) (d : Display) : Type 0 where
   -- level or waiting
-  pub shown : (f .shown b ≡ shownNumber State.Level n d) ⊎ (f .shown b ≡ shownNumber State.Waiting n d)
+  pub shown : ShownAs f b State.Level n d ⊎ ShownAs f b State.Waiting n d
   -- the number stands alone in the four bytes above
   pub number : f .shown b / 4294967296 ≡ n
   pub consumer : f .consumer b ≡ consumerNumber (d .consumer)
   pub tracked : f .tracked b ≡ trackedNumber (d .providers)
-  pub page : Says f b (shownEntries State.Level n d) ⊎ Says f b (shownEntries State.Waiting n d)

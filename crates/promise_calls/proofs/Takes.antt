@@ -106,7 +106,7 @@ takes-bytes [] f a h = refl
 takes-bytes (x ∷ l) f a h =
     ap (λ (b : List ℕ). takesOn functions b l) (take-bytes f x h) ∙ takes-bytes l (takeBytes f x) (a .1) (a .0 .fits f h)
 
-takes-fit : (l : List (List ℕ)) (f : Follower) → AllKeep l → imageFits f ≡ true → imageFits (link.takesBytes f l) ≡ true
+pub takes-fit : (l : List (List ℕ)) (f : Follower) → AllKeep l → imageFits f ≡ true → imageFits (link.takesBytes f l) ≡ true
 takes-fit [] f a h = h
 takes-fit (x ∷ l) f a h = takes-fit l (takeBytes f x) (a .1) (a .0 .fits f h)
 

@@ -36,7 +36,9 @@ use Rattle.desk_follower.specs.Held.{noneHeld, greatest, above}
 use Rattle.desk_follower.specs.declared.Follower.{Follower}
 use Rattle.desk_follower.specs.declared.OptionNumber.{OptionNumber}
 use Rattle.wire_framing.specs.Framing.{framed}
+use Rattle.abstract_page.specs.Edges.{PageEdges}
 use Rattle.abstract_page.specs.Text.{decimal}
+use Rattle.abstract_page.proofs.Edges.{page-edges}
 use Rattle.desk_report.specs.Text.{header}
 use Rattle.desk_report.specs.Line.{lineOf, lineBytes, refusedBytes}
 use Rattle.desk_report.specs.Desk.{afterRead, takenBy, lineFor, follow}
@@ -91,6 +93,8 @@ pub record Edges : Type 0 where
   pub P5-limited : powerStateOf rustDefault 15001 ≡ PowerState.Limited
   -- EDG-6 (P6), EDG-7 (P7), EDG-10 (P10) and three more: what an event does
   pub events : EventEdges
+  -- the pages of the example's follower (PRG-7, S1), and one with four tracked ports
+  pub pages : PageEdges
   -- EDG-8 (P8): attach in Idle is InvalidState (expected {Detached}, bit 1; actual Idle), and the record stays Idle
   pub P8 : (c : OptionConsumerPowerCapability) (r : OptionProviderPowerCapability)
       → attachOf (psu PsuState.Idle c r) ≡ record { result = Result.Err (invalidState 1 StateKind.Idle); state = psu PsuState.Idle c r }
@@ -162,6 +166,7 @@ edges =
       P5-unlimited = refl;
       P5-limited = refl;
       events = event-edges;
+      pages = page-edges;
       P8 = λ c r. refl;
       P9 = λ c r. rw (is-true (sameOptionProvider r r) (option-provider-refl r));
       chosen-while-providing = refl;

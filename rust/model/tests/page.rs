@@ -8,7 +8,7 @@ use link_model::packet::{Capability, Consumer, Display, Event, Flags};
 use link_model::page::{Entry, Figure, NAMES, PAGE, State, entries, page, read, write};
 use link_model::program::{Frames, sheet};
 
-/// The five packets of the scope's example, each after its length.
+/// The five packets of the example (PRG-7), each after its length.
 const EXAMPLE: [&[u8]; 5] = [
     &[6, 2, 0, 0, 0, 0, 0],
     &[5, 1, 2, 0, 0, 0],

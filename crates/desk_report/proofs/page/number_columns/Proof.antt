@@ -12,9 +12,11 @@ use Rattle.desk_report.proofs.page.number_columns.Tie as tie
 enum-told : tie.Need-enum-told
 enum-told c = search needs
 
+absent-columns-requires : tie.Need-absent-columns-requires
+absent-columns-requires c κs = search needs
+
 returns : tie.Need-returns
-unfolding right
-returns c = rw (c .before .before .enum-told .given .1)
+returns c = rw (c .before .enum-told .given .1) (c .absent-columns .ensures)
 
 enum-known-n : tie.Need-enum-known-n
 enum-known-n c = search needs
@@ -32,4 +34,4 @@ returns-2 c =
 
 pub number-columns-spec : {M : Type 1} → statement M
 number-columns-spec =
-    tie.close (tie.spec enum-told returns enum-known-n cast-digits-of digits-of-requires returns-2)
+    tie.close (tie.spec enum-told absent-columns-requires returns enum-known-n cast-digits-of digits-of-requires returns-2)

@@ -20,7 +20,7 @@ use Rattle.desk_report.proofs.page.ports_columns.Statement.{statement}
 use Rattle.desk_report.proofs.page.ports_columns.Tie as tie
 
 abbrev Inv-loop : tie.InvT-loop
-Inv-loop tracked f₀ i₀ t5 f i = (i ≤ 16) × (f .from ≤ 20) × Holds f (commas (portsAt (tracked .mask) i))
+Inv-loop tracked f₀ i₀ f i = (i ≤ 16) × (f .from ≤ 20) × Holds f (commas (portsAt (tracked .mask) i))
 
 -- at the end all of them
 ended : (t : Providers) (f : Right) (i : ℕ) → i ≤ 0 → Holds f (commas (portsAt (t .mask) i)) → Holds f (commas (portsBytes (t .mask)))
@@ -29,7 +29,7 @@ ended t f i h k =
     subst (λ (s : List ℕ). Holds f (commas s)) (ap (portsAt (t .mask)) z ∙ all-ports (t .mask)) k
 
 abbrev μ-loop : tie.MeasureT-loop
-μ-loop tracked f₀ i₀ t5 f i = i
+μ-loop tracked f₀ i₀ f i = i
 
 loop-holds : tie.Need-loop-holds Inv-loop μ-loop
 unfolding right
@@ -72,12 +72,15 @@ loop-again-2 c =
     let b = eqb-false _ 1 (rw (lt-ltb (l .i - 1) 16 h) at t) in
     (omega arith, l .inv .1, subst (λ (s : List ℕ). Holds (l .f) (commas s)) (sym (port-absent (x .tracked .mask) (l .i) p (l .inv .0) b)) (l .inv .2))
 
+absent-columns-requires : tie.Need-absent-columns-requires Inv-loop μ-loop
+absent-columns-requires c κs = search needs
+
 returns : tie.Need-returns Inv-loop μ-loop
-unfolding right
 returns c =
-    let x = c .before .before .before .before .before .before .args in
-    let l = c .before .before .before .before .before .loop in
-    none-there (l .f) (portsBytes (x .tracked .mask)) (ended (x .tracked) (l .f) (l .i) (c .before .before .before .before .loop-test .left) (l .inv .2)) (c .before .before .if2 .taken)
+    let x = c .before .before .before .before .before .args in
+    let l = c .before .before .before .before .loop in
+    c .absent-columns .ensures
+    ∙ none-there (l .f) (portsBytes (x .tracked .mask)) (ended (x .tracked) (l .f) (l .i) (c .before .before .before .loop-test .left) (l .inv .2)) (c .before .if2 .taken)
 
 returns-2 : tie.Need-returns-2 Inv-loop μ-loop
 returns-2 c =
@@ -99,5 +102,6 @@ ports-columns-spec =
     loop-again
     loop-less-2
     loop-again-2
+    absent-columns-requires
     returns
     returns-2)
