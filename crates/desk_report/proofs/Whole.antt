@@ -12,8 +12,9 @@ use Rattle.wire_framing.specs.Framing.{framed}
 use Rattle.wire_framing.specs.declared.Framed.{Framed}
 use Rattle.wire_framing.proofs.Frames.{frame-told, frame-more, refused-more, Unframed, unframed-short}
 use Rattle.desk_report.specs.Text.{header}
-use Rattle.desk_report.specs.Desk.{fresh, takenBy, lineFor, deskAt, bytesAt, nextAt, steppedDesk, steppedBytes, steppedNext, endBytes, refusedAt, afterStep, output, deskAfter, deskEnd, outputOf, deskOf, follow, sheetTold, sheetShows}
-use Rattle.desk_report.specs.Reads.{Turn, begin, writtenAfter, afterTake, taking, takeAll, readOn, reads, ended, run, sheetRun}
+use Rattle.desk_report.specs.Desk.{fresh, takenBy, lineFor, deskAt, bytesAt, nextAt, steppedDesk, steppedBytes, steppedNext, endBytes, refusedAt, afterStep, output, deskAfter, deskEnd, outputOf, deskOf, follow}
+use Rattle.desk_report.specs.Reads.{Turn, begin, writtenAfter, afterTake, taking, takeAll, readOn, reads, ended, run}
+use Rattle.desk_report.specs.Sheet.{sheetTold, sheetShows, sheetRun}
 use Rattle.desk_report.specs.declared.desk.Desk.{Desk}
 use Rattle.desk_report.specs.declared.desk.Next.{Next}
 

@@ -1,6 +1,6 @@
--- What a desk writes for its input, and where it then stands: the program `follow` (PRG-1 to PRG-6), and the lines of `sheet`.
+-- What a desk writes for its input, and where it then stands; the program `follow` (PRG-1 to PRG-6).
 use Prim.Native.Nat.{ℕ, zero, suc, _+_}
-use mathlib.Core.Bool.{Bool, true, false, cond}
+use mathlib.Core.Bool.{Bool, true, cond}
 use mathlib.Core.List.{List, [], _++_}
 use lib.Dec.{eqb, ltb}
 use lib.ListN.{length, take, drop}
@@ -117,11 +117,3 @@ deskOf d s = deskEnd (length s) d s
 -- the program `follow`: a header, and a line for each packet
 unfoldable pub follow : List ℕ → List ℕ
 follow s = header ++ outputOf (fresh true) s
-
--- the program `sheet`: a line for what is refused alone, on standard error; and the follower at the end of the input, whose page it writes
-
-unfoldable pub sheetTold : List ℕ → List ℕ
-sheetTold s = outputOf (fresh false) s
-
-unfoldable pub sheetShows : List ℕ → Follower
-sheetShows s = deskOf (fresh false) s .follower

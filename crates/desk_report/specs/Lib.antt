@@ -4,3 +4,4 @@ pub mod Desk
 pub mod Reads
 pub mod Buffer
 pub mod Page
+pub mod Sheet

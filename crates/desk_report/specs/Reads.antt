@@ -60,7 +60,3 @@ begin d w = record { desk = d; kept = []; more = true; written = w }
 -- all that a run of `follow` writes
 unfoldable pub run : List (List ℕ) → List ℕ
 run l = ended (reads (begin (fresh true) header) l)
-
--- a run of `sheet`: what it tells is `ended` of it, and at its end it writes the page of this desk's follower
-unfoldable pub sheetRun : List (List ℕ) → Turn
-sheetRun l = reads (begin (fresh false) []) l
