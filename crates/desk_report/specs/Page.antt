@@ -1,5 +1,6 @@
--- A page as the code has it, its figures options; what it says is said in abstract_page's words.
+-- A page as the code has it; what it says is said in abstract_page's words.
 use Prim.Native.Nat.{ℕ, _-_}
+use mathlib.Core.Bool.{true, false, cond}
 use mathlib.Core.List.{List}
 use mathlib.Core.Path.{_≡_}
 use lib.ListN.{length}
@@ -12,14 +13,19 @@ use Rattle.abstract_page.specs.Text.{right}
 use Rattle.abstract_page.specs.Page.{Figure, absent, state, Entry, lines, entries, one, millivolts, milliamps, ports}
 use Rattle.desk_follower.specs.Follower.{stateOf}
 use Rattle.desk_follower.specs.declared.Follower.{Follower}
-use Rattle.desk_follower.specs.declared.OptionNumber.{OptionNumber}
 use Rattle.desk_follower.specs.declared.Shown.{Shown}
+use Rattle.desk_report.specs.declared.page.Figure as code
 use Rattle.desk_report.specs.declared.page.Page.{Page}
 use Rattle.desk_report.specs.declared.text.Right.{Right}
 
-abbrev pub figureOf : OptionNumber → Figure
-figureOf OptionNumber.None = absent
-figureOf (OptionNumber.Some n) = one n
+abbrev pub given : ℕ → code.Figure
+given n = record { present = true; value = n }
+
+abbrev pub nothing : code.Figure
+nothing = record { present = false; value = 0 }
+
+abbrev pub figureOf : code.Figure → Figure
+figureOf f = cond (f .present) (one (f .value)) absent
 
 abbrev pub entriesIn : Page → List Entry
 entriesIn p =
@@ -32,11 +38,11 @@ pageBytes p = lines (entriesIn p)
 abbrev pub lostPage : Page
 lostPage =
     record {
-      number = OptionNumber.None;
+      number = nothing;
       state = State.Lost;
-      port = OptionNumber.None;
-      mv = OptionNumber.None;
-      ma = OptionNumber.None;
+      port = nothing;
+      mv = nothing;
+      ma = nothing;
       tracked = none;
     }
 
@@ -44,20 +50,20 @@ lostPage =
 abbrev pub shownPage : State → Picture → OptionAvailableConsumer → Page
 shownPage s p OptionAvailableConsumer.None =
     record {
-      number = OptionNumber.Some (p .number);
+      number = given (p .number);
       state = s;
-      port = OptionNumber.None;
-      mv = OptionNumber.None;
-      ma = OptionNumber.None;
+      port = nothing;
+      mv = nothing;
+      ma = nothing;
       tracked = p .display .providers;
     }
 shownPage s p (OptionAvailableConsumer.Some c) =
     record {
-      number = OptionNumber.Some (p .number);
+      number = given (p .number);
       state = s;
-      port = OptionNumber.Some (c .psu);
-      mv = OptionNumber.Some (millivolts c);
-      ma = OptionNumber.Some (milliamps c);
+      port = given (c .psu);
+      mv = given (millivolts c);
+      ma = given (milliamps c);
       tracked = p .display .providers;
     }
 

@@ -3,7 +3,6 @@ use crate::text::Right;
 use crate::text::digits_of;
 use crate::text::put;
 use desk_follower::Follower;
-use desk_follower::OptionNumber;
 use desk_follower::Shown;
 use interface_display::OptionAvailableConsumer;
 use interface_display::State;
@@ -24,15 +23,21 @@ ghost use Rattle.abstract_page.specs.Text.{newline, decimal, word, right};
 ghost use Rattle.abstract_page.specs.Page.{absent, commas, text, ports};
 ghost use Rattle.desk_report.specs.Page.{figureOf, pageBytes, lostPage, showingPage, pageFor, Holds};
 
+// A number, or nothing, and then the value is 0: a struct, so that the value is set either way.
+pub struct Figure {
+    pub present: bool,
+    pub value: u32,
+}
+
 // What a page says. Only what is not there is absent: 0 is a figure.
 pub struct Page {
     // The number of the event shown.
-    pub number: OptionNumber,
+    pub number: Figure,
     pub state: State,
     // The consumer's port, mV and mA.
-    pub port: OptionNumber,
-    pub mv: OptionNumber,
-    pub ma: OptionNumber,
+    pub port: Figure,
+    pub mv: Figure,
+    pub ma: Figure,
     pub tracked: Providers,
 }
 
@@ -41,12 +46,16 @@ impl Page {
     pub fn lost() -> Page
         ensures { λ r. ⌜ r ≡ lostPage ⌝ }
     {
+        let none = Figure {
+            present: false,
+            value: 0,
+        };
         Page {
-            number: OptionNumber::None,
+            number: none,
             state: State::Lost,
-            port: OptionNumber::None,
-            mv: OptionNumber::None,
-            ma: OptionNumber::None,
+            port: none,
+            mv: none,
+            ma: none,
             tracked: Providers::new(),
         }
     }
@@ -58,26 +67,46 @@ impl Page {
         let display = p.display;
         let consumer = display.consumer;
         let tracked = display.providers;
+        let number = Figure {
+            present: true,
+            value: p.number,
+        };
         match consumer {
             OptionAvailableConsumer::None => {
+                let none = Figure {
+                    present: false,
+                    value: 0,
+                };
                 return Page {
-                    number: OptionNumber::Some(p.number),
+                    number,
                     state,
-                    port: OptionNumber::None,
-                    mv: OptionNumber::None,
-                    ma: OptionNumber::None,
+                    port: none,
+                    mv: none,
+                    ma: none,
                     tracked,
                 };
             }
             OptionAvailableConsumer::Some(c) => {
                 let with_flags = c.consumer_power_capability;
                 let capability = with_flags.capability;
+                let port = Figure {
+                    present: true,
+                    value: c.psu as u32,
+                };
+                let mv = Figure {
+                    present: true,
+                    value: capability.voltage_mv as u32,
+                };
+                let ma = Figure {
+                    present: true,
+                    value: capability.current_ma as u32,
+                };
                 return Page {
-                    number: OptionNumber::Some(p.number),
+                    number,
                     state,
-                    port: OptionNumber::Some(c.psu as u32),
-                    mv: OptionNumber::Some(capability.voltage_mv as u32),
-                    ma: OptionNumber::Some(capability.current_ma as u32),
+                    port,
+                    mv,
+                    ma,
                     tracked,
                 };
             }
@@ -109,19 +138,15 @@ fn absent_columns() -> [u8; 20]
 }
 
 // A number.
-fn number_columns(n: OptionNumber) -> [u8; 20]
-    ensures { λ r. ⌜ r ≡ right 20 (text (figureOf n)) ⌝ }
+fn number_columns(f: Figure) -> [u8; 20]
+    ensures { λ r. ⌜ r ≡ right 20 (text (figureOf f)) ⌝ }
 {
-    match n {
-        OptionNumber::None => {
-            return absent_columns();
-        }
-        OptionNumber::Some(v) => {
-            let d = digits_of(v as u64);
-            let text = d.text;
-            return text;
-        }
+    if f.present {
+        let d = digits_of(f.value as u64);
+        let text = d.text;
+        return text;
     }
+    absent_columns()
 }
 
 // The word of a state.

@@ -53,7 +53,7 @@ put-line-requires-5 c κs =
     let b3 = b4 .before .before .before .before .before .before in
     let b2 = b3 .before .before .before .before .before .before in
     let b1 = b2 .before .before .before .before .before .before in
-    omega (arith, b4 .buffer4 .given, b3 .buffer3 .given, b2 .buffer2 .given, b1 .buffer .given, b4 .before .put-line4 .ensures .0, b3 .before .put-line3 .ensures .0, b2 .before .put-line2 .ensures .0, b1 .before .put-line .ensures .0, b1 .before .before .before .before .before .before .if1 .left)
+    omega (arith, b4 .buffer4 .given, b3 .buffer3 .given, b2 .buffer2 .given, b1 .buffer .given, b4 .before .put-line4 .ensures .0, b3 .before .put-line3 .ensures .0, b2 .before .put-line2 .ensures .0, b1 .before .put-line .ensures .0, b1 .before .before .before .before .before .before .before .before .before .before .if1 .left)
 
 ports-columns-requires : tie.Need-ports-columns-requires
 ports-columns-requires c κs = search needs
@@ -65,7 +65,7 @@ put-line-requires-6 c κs =
     let b3 = b4 .before .before .before .before .before .before in
     let b2 = b3 .before .before .before .before .before .before in
     let b1 = b2 .before .before .before .before .before .before in
-    omega (arith, b5 .buffer5 .given, b4 .buffer4 .given, b3 .buffer3 .given, b2 .buffer2 .given, b1 .buffer .given, b5 .before .put-line5 .ensures .0, b4 .before .put-line4 .ensures .0, b3 .before .put-line3 .ensures .0, b2 .before .put-line2 .ensures .0, b1 .before .put-line .ensures .0, b1 .before .before .before .before .before .before .if1 .left)
+    omega (arith, b5 .buffer5 .given, b4 .buffer4 .given, b3 .buffer3 .given, b2 .buffer2 .given, b1 .buffer .given, b5 .before .put-line5 .ensures .0, b4 .before .put-line4 .ensures .0, b3 .before .put-line3 .ensures .0, b2 .before .put-line2 .ensures .0, b1 .before .put-line .ensures .0, b1 .before .before .before .before .before .before .before .before .before .before .if1 .left)
 
 same-length : tie.Need-same-length
 same-length c =
@@ -87,7 +87,7 @@ returns-2 c =
     let c2 = c3 .before .before .before .before .before .before in
     let c1 = c2 .before .before .before .before .before .before in
     let e = c1 .before .before .before .before in
-    let x = e .before .before .before .args in
+    let x = e .before .before .before .before .before .before .before .args in
     let o = now (x .buffer) in
     let g = x .page in
     let p1 = stored-line o (c1 .put-line .last .0) 0 (c1 .put-line .result) numberName (c1 .before .number-columns .result) (figureOf (g .number)) (c1 .put-line .ensures .0) (c1 .put-line .ensures .1) (c1 .before .number-columns .ensures) in
@@ -97,7 +97,7 @@ returns-2 c =
     let p5 = stored-line (c4 .put-line4 .last .0) (c5 .put-line5 .last .0) (c4 .put-line4 .result) (c5 .put-line5 .result) milliampsName (c5 .before .number-columns4 .result) (figureOf (g .ma)) (c5 .put-line5 .ensures .0) (c5 .put-line5 .ensures .1) (c5 .before .number-columns4 .ensures) in
     let p6 = stored-line (c5 .put-line5 .last .0) (c6 .put-line6 .last .0) (c5 .put-line5 .result) (c6 .put-line6 .result) trackedName (c6 .before .ports-columns .result) (ports (portsBytes (g .tracked .mask))) (c6 .put-line6 .ensures .0) (c6 .put-line6 .ensures .1) (c6 .before .ports-columns .ensures) in
     let j = joined p1 (joined p2 (joined p3 (joined p4 (joined p5 (joined p6 (no-more (c6 .put-line6 .last .0) (c6 .put-line6 .result))))))) in
-    rw (le-ltb _ _ (e .before .if1 .left)) (ap Written.Length (j .place ∙ zero-add _), j .bytes)
+    rw (le-ltb _ _ (e .before .before .before .before .before .if1 .left)) (ap Written.Length (j .place ∙ zero-add _), j .bytes)
 
 pub write-spec : {M : Type 1} → statement M
 write-spec =

@@ -15,15 +15,16 @@ enum-known-consumer c = search needs
 cast-t14 : tie.Need-cast-t14
 cast-t14 c = search needs
 
-cast-t16 : tie.Need-cast-t16
-cast-t16 c = search needs
+cast-t14-2 : tie.Need-cast-t14-2
+cast-t14-2 c = search needs
 
-cast-t18 : tie.Need-cast-t18
-cast-t18 c = search needs
+cast-t14-3 : tie.Need-cast-t14-3
+cast-t14-3 c = search needs
 
 returns-2 : tie.Need-returns-2
 returns-2 c = rw (c .before .before .before .before .before .before .consumer .given .1)
 
 pub showing-spec : {M : Type 1} → statement M
 showing-spec =
-    tie.close (tie.spec enum-told returns enum-known-consumer cast-t14 cast-t16 cast-t18 returns-2)
+    tie.close
+    (tie.spec enum-told returns enum-known-consumer cast-t14 cast-t14-2 cast-t14-3 returns-2)
