@@ -5,6 +5,7 @@ use desk_report::desk::Desk;
 use desk_report::page;
 use desk_report::page::Page;
 use desk_stream::End;
+use desk_stream::Ended;
 use desk_stream::sink::Sink;
 use libc::STDERR_FILENO;
 use libc::STDOUT_FILENO;
@@ -12,7 +13,18 @@ ghost use mathlib.Core.Path.{_≡_};
 ghost use mathlib.Core.List.{List};
 ghost use Prim.Native.Nat.{ℕ};
 ghost use Rattle.desk_report.specs.Page.{pageBytes, pageFor};
-ghost use Rattle.desk_report.specs.Sheet.{sheetPage};
+ghost use Rattle.desk_report.specs.Sheet.{sheetPage, sheetRun};
+
+// Reads to the end. Lines that standard error does not take are dropped, and end nothing.
+fn read() -> Ended
+    ensures { λ r. ⌜ ((l : List (List ℕ)) × (r .desk ≡ sheetRun l .desk)) × (r .end ≡ End.Unwritten → ⊥) ⌝ }
+{
+    let sink = Sink {
+        fd: STDERR_FILENO,
+        needed: false,
+    };
+    desk_stream::run(Desk::new(false), sink)
+}
 
 // The page of a desk's follower.
 fn page_of(desk: Desk, out: &mut [u8; 246])
@@ -22,28 +34,25 @@ fn page_of(desk: Desk, out: &mut [u8; 246])
     page::write(Page::of(follower), out);
 }
 
-// Reads to the end, and gives the page of some bytes: those that were read.
+// Reads to the end, and gives the page of the bytes that were read.
 fn read_page(out: &mut [u8; 246]) -> End
-    ensures { λ _. ⌜ (s : List ℕ) × (now (out .exit) ≡ sheetPage s) ⌝ }
+    ensures { λ _. ⌜ ((s : List ℕ) × (now (out .exit) ≡ sheetPage s)) ⌝ }
 {
-    let sink = Sink {
-        fd: STDERR_FILENO,
-        needed: false,
-    };
-    let ended = desk_stream::run(Desk::new(false), sink);
+    let ended = read();
     let desk = ended.desk;
-    page_of(desk, out);
     let end = ended.end;
+    page_of(desk, out);
     end
 }
 
-fn write_page(out: &[u8]) {
+// Writes the page, or says that standard output does not take it.
+fn write_page(out: &[u8; 246]) {
     if !io::write_all(STDOUT_FILENO, out) {
         io::write_all(STDERR_FILENO, b"sheet: standard output takes no more\n");
     }
 }
 
-// Of an input that cannot be read to its end there is no page. Lines that standard error does not take are dropped.
+// Of an input that cannot be read to its end there is no page.
 fn sheet() {
     let mut out = [0u8; 246];
     match read_page(&mut out) {
