@@ -4,8 +4,9 @@
 Asks of every public function of a library that its contract fixes what it gives: no `requires`; an `ensures` that says what the result equals, if it
 has a result, or what each of its fields equals; and for every slice or array that it is lent by `&mut`, one that says what the bytes at exit equal. An equality
 counts only where it stands by itself or beside others: not behind a hypothesis, nor as one of two cases, nor under "there is", and not where its right
-side speaks of the result or of bytes at exit. Whether what they equal is the right thing is for a reader of the definitions. Programs are left out: they
-have no public function.
+side speaks of the result or of bytes at exit. Of a crate that calls the system (crates.txt: it lists libc) what the system gave is free, so that there an
+equality counts under "there is" too. Whether what they equal is the right thing is for a reader of the definitions. Programs are left out: they have no
+public function.
 Then contracts that leave something open are tried, and each must be found: some small ones, and each function's own with a hypothesis put before every clause.
 Writes a line for each that is not as it should be, and last 'N passed, M failed'.
 """
@@ -53,35 +54,35 @@ def bare(text):
     return text
 
 
-def equalities(text):
-    """The left and right sides of what a clause says to be equal, whatever else holds."""
+def equalities(text, system):
+    """The left and right sides of what a clause says to be equal, whatever else holds; of a crate that calls the system, of something that it gave."""
     text = bare(text)
     if len(split(text, "→")) > 1 or len(split(text, "⊎")) > 1:
         return
     parts = split(text, "×")
     if len(parts) > 1:
-        if not any(len(split(bare(part), ":")) > 1 for part in parts):
+        if system or not any(len(split(bare(part), ":")) > 1 for part in parts):
             for part in parts:
-                yield from equalities(part)
+                yield from equalities(part, system)
         return
     sides = split(text, "≡")
     if len(sides) == 2:
         yield bare(sides[0]), sides[1]
 
 
-def fixed(clauses):
+def fixed(clauses, system):
     """What the clauses fix: `r` for the result, `r .FIELD` for a field of it, `now (NAME .exit)` for what is lent."""
     found = set()
     for name, said in re.findall(r"ensures \{ λ (\w+)\. ⌜ (.*) ⌝ \}$", clauses, re.M):
-        for left, right in equalities(said):
+        for left, right in equalities(said, system):
             if not re.search(r"(?<![\w«])%s(?![\w»])|\.exit\b" % name, right):
                 found.add(re.sub(r"^%s(?=$| \.)" % name, "r", left).replace("«", "").replace("»", ""))
     return found
 
 
-def faults(arguments, result, clauses, fields):
+def faults(arguments, result, clauses, fields, system=False):
     """What the contract leaves open."""
-    found = fixed(clauses)
+    found = fixed(clauses, system)
     if "requires" in clauses:
         yield "has a requires"
     if "ensures" not in clauses:
@@ -127,18 +128,33 @@ PLANTED = [
 ]
 
 
+# The same of a crate that calls the system.
+PLANTED_SYSTEM = [
+    ("pub fn f(n: u8) -> u8\n    ensures { λ r. ⌜ ((w : Seen) × (r ≡ after n w)) ⌝ }\n", ""),
+    ("pub fn f(n: u8) -> u8\n    ensures { λ r. ⌜ ((w : Seen) × (n < 4 → r ≡ after n w)) ⌝ }\n", "the result"),
+    ("pub fn f(n: u8) -> u8\n    ensures { λ r. ⌜ ((w : Seen) × (w .bytes ≡ n)) ⌝ }\n", "the result"),
+]
+
+
 def planted():
     """What is wrong with the small ones: a good one refused, or one that leaves something open accepted."""
-    for head, open_ in PLANTED:
+    for system, head, open_ in [(False, *one) for one in PLANTED] + [(True, *one) for one in PLANTED_SYSTEM]:
         text = STRUCT + head + "{\n}\n"
         ((_, arguments, result, clauses),) = contracts(text)
-        found = list(faults(arguments, result, clauses, structs(text)))
+        found = list(faults(arguments, result, clauses, structs(text), system))
         right = len(found) > 0 and open_ in found[0] if open_ else not found
         yield "" if right else "planted: %r: %s" % (head, found)
 
 
+def of_system():
+    """The crates that call the system."""
+    with open(os.path.join(ROOT, "crates.txt"), encoding="utf-8") as f:
+        return {line.split(":")[0] for line in f if not line.startswith("#") and "libc" in line.split()}
+
+
 def main():
     passed = failed = 0
+    calling = of_system()
     for wrong in planted():
         if wrong:
             print(wrong)
@@ -150,10 +166,11 @@ def main():
             if not name.endswith(".rt") or os.path.exists(os.path.join(os.path.dirname(path), "main.rt")):
                 continue
             text = open(path, encoding="utf-8").read()
+            system = os.path.relpath(path, os.path.join(ROOT, "crates")).split(os.sep)[0] in calling
             for function, arguments, result, clauses in contracts(text):
-                found = list(faults(arguments, result, clauses, structs(text)))
+                found = list(faults(arguments, result, clauses, structs(text), system))
                 under = clauses.replace("⌜ ", "⌜ 0 < 1 → ")
-                if (result or "&mut " in arguments) and not list(faults(arguments, result, under, structs(text))):
+                if (result or "&mut " in arguments) and not list(faults(arguments, result, under, structs(text), system)):
                     found.append("is accepted with a hypothesis before every clause")
                 for fault in found:
                     print("%s: %s %s" % (os.path.relpath(path, ROOT), function, fault))

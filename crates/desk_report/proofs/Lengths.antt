@@ -21,7 +21,7 @@ use Rattle.wire_framing.specs.declared.Framed.{Framed}
 use Rattle.wire_framing.proofs.Frames.{Told, frame-told}
 use Rattle.desk_report.specs.Text.{number, refused}
 use Rattle.desk_report.specs.Line.{lineOf, lineBytes, refusedBytes, spaced}
-use Rattle.desk_report.specs.Desk.{counted, lineRead, lineFor, bytesAt, nextAt, steppedBytes, steppedNext, endBytes}
+use Rattle.desk_report.specs.Desk.{counted, lineTaken, lineRead, lineFor, bytesAt, nextAt, steppedBytes, steppedNext, endBytes}
 use Rattle.desk_report.specs.declared.desk.Desk.{Desk}
 use Rattle.desk_report.specs.declared.desk.Next.{Next}
 use Rattle.desk_report.specs.declared.line.Line.{Line}
@@ -49,16 +49,20 @@ unfolding refusedBytes
 refused-length k n =
     omega (arith, length-append (decimal k) (refused ++ (decimal n ++ (10 ∷ []))), length-append refused (decimal n ++ (10 ∷ [])), length-append (decimal n) (10 ∷ []), length-to k, length-to n)
 
-read-length : (k : ℕ) (f : Follower) (r : ReadPacket) → length (lineRead k f r) ≤ 92
-read-length k f (ReadPacket.Refused n) = refused-length k n
-read-length k f (ReadPacket.Packet p) = line-length k (lineOf (follower.taken f p))
+taken-length : (lines : Bool) (k : ℕ) (l : Line) → length (lineTaken lines k l) ≤ 92
+taken-length true k l = line-length k l
+taken-length false k l = omega arith
+
+read-length : (lines : Bool) (k : ℕ) (f : Follower) (r : ReadPacket) → length (lineRead lines k f r) ≤ 92
+read-length lines k f (ReadPacket.Refused n) = refused-length k n
+read-length lines k f (ReadPacket.Packet p) = taken-length lines k (lineOf (follower.taken f p))
 
 at-length : (d : Desk) (s : List ℕ) (r : Framed) → length (bytesAt d s r) ≤ 92
 unfolding lineFor
 at-length d s Framed.Empty = omega arith
 at-length d s Framed.Cut = omega arith
 at-length d s (Framed.Refused n) = refused-length (counted (d .packets)) n
-at-length d s (Framed.Frame u n) = read-length (counted (d .packets)) (d .follower) (readPacket (take n (drop u s)))
+at-length d s (Framed.Frame u n) = read-length (d .lines) (counted (d .packets)) (d .follower) (readPacket (take n (drop u s)))
 
 pub step-length : (d : Desk) (s : List ℕ) → length (steppedBytes d s) ≤ 92
 step-length d s = at-length d s (framed s)

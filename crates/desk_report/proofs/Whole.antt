@@ -1,5 +1,5 @@
--- However the reads cut the input, a run writes `follow` of the whole: a packet that is there, and a length that is refused, stay so
--- whatever bytes come after them, so to take what is there and then the rest is to take all at once.
+-- However the reads cut the input, a run writes what is written for the whole and ends at its desk: a packet that is there, and a length
+-- that is refused, stay so whatever bytes come after them, so to take what is there and then the rest is to take all at once.
 -- Assumes nothing.
 use mathlib.Core.Path.{_≡_, refl, ap, sym, _∙_}
 use mathlib.Core.Bool.{Bool, true, false, cond}
@@ -12,9 +12,11 @@ use Rattle.wire_framing.specs.Framing.{framed}
 use Rattle.wire_framing.specs.declared.Framed.{Framed}
 use Rattle.wire_framing.proofs.Frames.{frame-told, frame-more, refused-more, Unframed, unframed-short}
 use Rattle.desk_report.specs.Text.{header}
-use Rattle.desk_report.specs.Desk.{fresh, takenBy, lineFor, deskAt, bytesAt, nextAt, steppedDesk, steppedBytes, steppedNext, endBytes, refusedAt, afterStep, output, follow}
-use Rattle.desk_report.specs.Reads.{Turn, start, writtenAfter, afterTake, taking, takeAll, readOn, reads, ended, run}
+use Rattle.desk_report.specs.Desk.{fresh, takenBy, lineFor, deskAt, bytesAt, nextAt, steppedDesk, steppedBytes, steppedNext, endBytes, refusedAt, afterStep, output, deskAfter, deskEnd, outputOf, deskOf, follow}
+use Rattle.desk_report.specs.Reads.{Turn, begin, writtenAfter, afterTake, taking, takeAll, readOn, reads, ended, run}
+use Rattle.desk_report.specs.Sheet.{sheetTold, sheetShows, sheetRun}
 use Rattle.desk_report.specs.declared.desk.Desk.{Desk}
+use Rattle.desk_report.specs.declared.desk.Next.{Next}
 
 -- enough turns are enough
 same : (k m : ℕ) (d : Desk) (s : List ℕ) → length s ≤ k → length s ≤ m → taking k d s ≡ taking m d s
@@ -149,13 +151,46 @@ at-once (suc k) d s p = found (at-once k) (framed s) refl
         append-assoc (lineFor d x) (q .written) (cond (q .more) (endBytes (q .desk) (q .kept)) [])
         ∙ ap (λ (y : List ℕ). lineFor d x ++ y) (ih (takenBy d x) v (omega (arith, w .least, w .there)))
 
--- for every input and every way to cut it; a piece may be empty
-pub run-is-follow : (l : List (List ℕ)) → run l ≡ follow (flatten l)
-unfolding run follow flatten
-run-is-follow [] = refl
-run-is-follow (s ∷ l) =
+desk-at-once : (k : ℕ) (d : Desk) (s : List ℕ) → taking k d s .desk ≡ deskEnd k d s
+desk-at-once zero d s = refl
+desk-at-once (suc k) d s = found (desk-at-once k) (steppedNext s)
+  where
+    found : ((d : Desk) (s : List ℕ) → taking k d s .desk ≡ deskEnd k d s) → (n : Next)
+        → afterTake (taking k) (steppedDesk d s) s n .desk ≡ deskAfter (deskEnd k) (steppedDesk d s) s n
+    found ih (Next.Used m) = ih (steppedDesk d s) (drop m s)
+    found ih Next.More = refl
+    found ih Next.Stop = refl
+
+-- for every desk, every input and every way to cut it; a piece may be empty
+pub record Whole (d : Desk) (w : List ℕ) (l : List (List ℕ)) : Type 0 where
+  pub written : ended (reads (begin d w) l) ≡ w ++ outputOf d (flatten l)
+  pub desk : reads (begin d w) l .desk ≡ deskOf d (flatten l)
+
+pub whole : (d : Desk) (w : List ℕ) (l : List (List ℕ)) → Whole d w l
+unfolding flatten
+whole d w [] = record { written = refl; desk = refl }
+whole d w (s ∷ l) =
     let v = s ++ flatten l in
-    let q = takeAll fresh v in
-    ap ended (all start s l)
-    ∙ (append-assoc header (q .written) (cond (q .more) (endBytes (q .desk) (q .kept)) [])
-    ∙ ap (λ (y : List ℕ). header ++ y) (at-once (length v) fresh v (omega arith)))
+    let q = takeAll d v in
+    let e = all (begin d w) s l in
+    record {
+      written =
+          ap ended e
+          ∙ (append-assoc w (q .written) (cond (q .more) (endBytes (q .desk) (q .kept)) [])
+          ∙ ap (λ (y : List ℕ). w ++ y) (at-once (length v) d v (omega arith)));
+      desk = ap (λ (t : Turn). t .desk) e ∙ desk-at-once (length v) d v;
+    }
+
+-- of `follow` and of `sheet`
+
+pub run-is-follow : (l : List (List ℕ)) → run l ≡ follow (flatten l)
+unfolding run follow
+run-is-follow l = whole (fresh true) header l .written
+
+pub sheet-tells : (l : List (List ℕ)) → ended (sheetRun l) ≡ sheetTold (flatten l)
+unfolding sheetRun sheetTold
+sheet-tells l = whole (fresh false) [] l .written
+
+pub sheet-shows : (l : List (List ℕ)) → sheetRun l .desk .follower ≡ sheetShows (flatten l)
+unfolding sheetRun sheetShows
+sheet-shows l = ap (λ (d : Desk). d .follower) (whole (fresh false) [] l .desk)

@@ -31,7 +31,3 @@ lineBytes k l =
 -- PRG-4: `K refused N`
 unfoldable pub refusedBytes : ℕ → ℕ → List ℕ
 refusedBytes k n = decimal k ++ (refused ++ (decimal n ++ (10 ∷ [])))
-
--- the line after a packet that was taken
-abbrev pub line : ℕ → Follower → List ℕ
-line k f = lineBytes k (lineOf f)

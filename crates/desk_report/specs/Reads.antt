@@ -1,5 +1,5 @@
--- A run of `follow` over its input in the pieces that the reads give: as crates/follow does, it takes the packets that are whole and
--- keeps the bytes of one that is not, for the next read.
+-- A run over an input in the pieces that the reads give: as crates/desk_stream does, it takes the packets that are whole and keeps the
+-- bytes of one that is not, for the next read.
 use Prim.Native.Nat.{ℕ, zero, suc}
 use mathlib.Core.Bool.{Bool, true, false, cond}
 use mathlib.Core.List.{List, [], _∷_, _++_}
@@ -49,13 +49,14 @@ abbrev pub reads : Turn → List (List ℕ) → Turn
 reads t [] = t
 reads t (s ∷ l) = reads (readOn t s) l
 
--- the end of the input
+-- the end of the input: all that is written
 abbrev pub ended : Turn → List ℕ
 ended t = t .written ++ cond (t .more) (endBytes (t .desk) (t .kept)) []
 
-abbrev pub start : Turn
-start = record { desk = fresh; kept = []; more = true; written = header }
+-- before the first read, when the bytes w are written
+abbrev pub begin : Desk → List ℕ → Turn
+begin d w = record { desk = d; kept = []; more = true; written = w }
 
--- all that a run writes
+-- all that a run of `follow` writes
 unfoldable pub run : List (List ℕ) → List ℕ
-run l = ended (reads start l)
+run l = ended (reads (begin (fresh true) header) l)

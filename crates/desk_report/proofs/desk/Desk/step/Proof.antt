@@ -27,8 +27,8 @@ returns-2 c =
     let r = sym (c .before .before .frame .ensures) ∙ c .enum-told2 .given .1 in
     rw r (refl, refl, refl, refl)
 
-enum-known-n : tie.Need-enum-known-n
-enum-known-n c = search needs
+enum-known-refusal : tie.Need-enum-known-refusal
+enum-known-refusal c = search needs
 
 count-requires : tie.Need-count-requires
 count-requires c κs = search needs
@@ -38,7 +38,7 @@ write-refused-requires c κs = search needs
 
 returns-3 : tie.Need-returns-3
 returns-3 c =
-    let r = sym (c .before .before .before .before .before .before .before .frame .ensures) ∙ c .before .before .before .before .before .n .given .1 in
+    let r = sym (c .before .before .before .before .before .before .before .frame .ensures) ∙ c .before .before .before .before .before .refusal .given .1 in
     let e = rw (c .before .before .before .count .ensures) at (c .write-refused .ensures) in
     rw (r, c .before .before .before .count .ensures) (refl, refl, e .0, e .1)
 
@@ -92,7 +92,7 @@ step-spec =
     returns
     enum-told-2
     returns-2
-    enum-known-n
+    enum-known-refusal
     count-requires
     write-refused-requires
     returns-3

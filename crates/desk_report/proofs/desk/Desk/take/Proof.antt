@@ -33,15 +33,16 @@ take-requires c κs = search needs
 of-requires : tie.Need-of-requires
 of-requires c κs = search needs
 
-write-requires : tie.Need-write-requires
-write-requires c κs = search needs
+write-taken-requires : tie.Need-write-taken-requires
+write-taken-requires c κs = search needs
 
 returns-2 : tie.Need-returns-2
 unfolding takenBy lineFor
 returns-2 c =
     let r = sym (c .before .before .before .before .before .before .before .read .ensures) ∙ c .before .before .before .before .before .p .given .1 in
-    let e = rw (c .before .before .of .ensures, c .before .before .before .take .ensures, c .before .before .before .before .before .before .before .before .before .count .ensures) at (c .write .ensures) in
-    rw (r, c .before .before .before .take .ensures, c .before .before .before .before .before .before .before .before .before .count .ensures) (refl, e .0, e .1)
+    let k = c .before .before .before .before .before .before .before .before .before .count .ensures in
+    let e = rw (c .before .before .of .ensures, c .before .before .before .take .ensures, k) at (c .write-taken .ensures) in
+    rw (r, c .before .before .before .take .ensures, k) (refl, e .0, e .1)
 
 pub take-spec : {M : Type 1} → statement M
 take-spec =
@@ -55,5 +56,5 @@ take-spec =
     enum-known-p
     take-requires
     of-requires
-    write-requires
+    write-taken-requires
     returns-2)
