@@ -17,7 +17,7 @@ use Rattle.wire.proofs.OneNumber as number
 use Rattle.wire.proofs.OnePacket.{read-write, write-read}
 use Rattle.desk_follower.specs.Follower.{stateOf, consumerOf}
 use Rattle.desk_follower.specs.declared.Follower.{Follower}
-use Rattle.desk_report.proofs.Whole.{run-is-follow}
+use Rattle.desk_report.proofs.Whole.{run-is-follow, sheet-tells, sheet-shows}
 use Rattle.promise_edges.specs.Edges.{edges}
 use Rattle.promise_run.specs.Demands.{Equal}
 use Rattle.abstract_calls.specs.Called.{Called, refusedCall}
@@ -120,5 +120,7 @@ laid-out = record {
   charger-record = λ b s h. (charger-write-read b s h, λ e. ap chargerFrom e ∙ charger-read-write s);
   results = one-to-one;
   follow-writes = run-is-follow;
+  sheet-tells = sheet-tells;
+  sheet-shows = sheet-shows;
   edges = edges;
 }

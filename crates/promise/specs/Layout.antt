@@ -28,7 +28,8 @@ use Rattle.wire.specs.declared.number.ReadNumber.{ReadNumber}
 use Rattle.wire.specs.declared.packet.ReadPacket.{ReadPacket}
 use Rattle.desk_follower.specs.declared.Follower.{Follower}
 use Rattle.desk_report.specs.Desk.{follow}
-use Rattle.desk_report.specs.Reads.{run}
+use Rattle.desk_report.specs.Reads.{run, ended}
+use Rattle.desk_report.specs.Sheet.{sheetTold, sheetShows, sheetRun}
 use Rattle.abstract_page.specs.Page.{entriesOf, pageOf}
 use Rattle.promise_link.specs.Alike.{seen}
 use Rattle.promise_link.specs.Link.{followerAfter}
@@ -113,5 +114,8 @@ pub record Layout : Type 0 where
   pub results : OneToOne
   -- What `follow` hands to the system to write is its definition of the whole input, however the reads cut that.
   pub follow-writes : (l : List (List ℕ)) → run l ≡ follow (flatten l)
+  -- S1-10, S1-11: what `sheet` tells, and the follower whose page it writes, are those of the whole input, however the reads cut that.
+  pub sheet-tells : (l : List (List ℕ)) → ended (sheetRun l) ≡ sheetTold (flatten l)
+  pub sheet-shows : (l : List (List ℕ)) → sheetRun l .desk .follower ≡ sheetShows (flatten l)
   -- P1 to P12.
   pub edges : Edges
