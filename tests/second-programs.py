@@ -11,7 +11,8 @@ call left out. Changes that do not compile, or that compile to the same code, ar
 A function is proved from its own code and from the contracts of what it calls, so the changes of different functions are judged in one run, at most one
 in a function. A change is refused by a fact (something of its function is no longer proved) or by the fit (its proof file names what is no longer
 there); what is not proved in the end for neither reason is tried again alone, and listed as undecided if that does not help. A program that is
-still proved is run on its input, and refused if it writes something else than its file stdout, or by its own test (tests/CRATE.sh).
+still proved is run on its input, and refused if it writes something else than its file stdout, or by its own test (tests/CRATE.sh) if that needs nothing
+else; so are, of a library that calls the system (crates.txt: it lists libc), the programs that stand on it.
 
 tests/second-programs.equal names the changes that leave the behaviour the same, a line each: FUNCTION | OLD | NEW | why. Any other change that is still
 proved makes the exit status 1. All is drawn from the seed: the same options and crates give the same changes, unless time runs out.
@@ -356,28 +357,49 @@ def judge(place, crate, batch):
             c.verdict = "fit"
 
 
+# The programs whose test needs nothing but the program.
+ALONE = {"follow"}
+
+
+def is_program(crate):
+    return os.path.exists(os.path.join(ROOT, "crates", crate, "src", "main.rt"))
+
+
+def programs(crate):
+    """The programs that a change of a crate is run by: itself, or those that stand on a library that calls the system."""
+    with open(os.path.join(ROOT, "crates.txt"), encoding="utf-8") as f:
+        named = {line.split(":")[0]: line.split(":")[1].split() for line in f if ":" in line and not line.startswith("#")}
+    if is_program(crate):
+        return [crate]
+    return [other for other, names in named.items() if is_program(other) and crate in names] if "libc" in named[crate] else []
+
+
 def runs(place, crate, batch):
-    """Whether a program with these changes writes what its file stdout has, run without its proof where the toolchain can, else with it; and passes its own
-    test, tests/CRATE.sh, where it has one. A program that does not end within five minutes, its proof included, does not."""
+    """Whether the programs with these changes write what their files stdout have, run without their proof where the toolchain can, else with it; and pass their
+    own test, where it needs nothing else. A program that does not end within ten minutes, its proof included, does not."""
     place.write(crate, batch)
-    if os.path.exists(os.path.join(ROOT, "tests", crate + ".sh")):
-        return place.run(["rt", "check", crate], 300)[0] == 0 and place.run(["sh", "tests/%s.sh" % crate], 300)[0] == 0
-    status, said = place.run(["rt", "try", crate], 300)
+    return all(run_one(place, program, batch) for program in programs(crate))
+
+
+def run_one(place, program, batch):
+    if program in ALONE:
+        return place.run(["rt", "check", program], 600)[0] == 0 and place.run(["sh", "tests/%s.sh" % program], 300)[0] == 0
+    status, said = place.run(["rt", "try", program], 300)
     if status != 0 and not batch:
         place.tries = False
     if not place.tries:
-        status, said = place.run(["rt", "check", crate], 300)
+        status, said = place.run(["rt", "check", program], 600)
     return status == 0
 
 
 def one_crate(place, crate, options, until, known, out):
-    program = os.path.exists(os.path.join(ROOT, "crates", crate, "src", "main.rt"))
+    run = bool(programs(crate))
     place.write(crate, [])
     status, said = place.run(["rt", "check", crate])
     if status != 0:
         sys.exit("second-programs: %s is not proved as it stands\n%s" % (crate, said[-2000:]))
     place.tries = True
-    if program and not runs(place, crate, []):
+    if run and not runs(place, crate, []):
         sys.exit("second-programs: %s does not run as it stands" % crate)
     fields, cases = neighbours(ROOT)
     texts = {}
@@ -399,7 +421,7 @@ def one_crate(place, crate, options, until, known, out):
         for c in batch:
             if c.verdict is None:
                 judge(place, crate, [c])
-            if c.verdict == "proved" and program and c.key() not in known and not runs(place, crate, [c]):
+            if c.verdict == "proved" and run and c.key() not in known and not runs(place, crate, [c]):
                 c.verdict = "run"
         tried += batch
         print("   %s: %d of %d" % (crate, len(tried), len(usable)), file=sys.stderr, flush=True)

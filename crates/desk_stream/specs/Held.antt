@@ -1,4 +1,4 @@
--- The bytes that stand in the buffer of `follow`, which has 4,096: where a line has no room after them they are written out first.
+-- The bytes that stand in the buffer of a run, which has 4,096: where a line has no room after them they are written out first.
 use Prim.Native.Nat.{ℕ, zero, suc, _+_}
 use mathlib.Core.Bool.{cond}
 use mathlib.Core.List.{List, [], _++_}
