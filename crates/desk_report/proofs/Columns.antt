@@ -17,25 +17,18 @@ use Rattle.abstract_page.specs.Page.{commas, text, ports}
 use Rattle.abstract_page.proofs.Columns.{right-short, right-long, right-more}
 use Rattle.abstract_page.proofs.Read.{commas-some}
 use Rattle.desk_report.specs.Page.{Holds}
-use Rattle.desk_report.specs.declared.text.Right.{Right}
-
-abbrev pub at : List ℕ → ℕ → Right
-at t n = record { text = t; from = n }
 
 -- a byte
 
-pub push-full : (f : Right) (b : ℕ) (s : List ℕ) → f .from ≡ 0 → Holds f s → Holds f (b ∷ s)
-push-full f b s e h =
-    let k : 20 ≤ length s = omega (arith, h .from) in
-    record { text = h .text ∙ sym (right-long 20 b s k); from = omega (arith, h .from) }
+pub push-full : (t : List ℕ) (from b : ℕ) (s : List ℕ) → from ≡ 0 → Holds t from s → Holds t 0 (b ∷ s)
+push-full t from b s e h =
+    let k : 20 ≤ length s = omega (arith, h .place) in
+    record { text = h .text ∙ sym (right-long 20 b s k); place = omega arith }
 
-pub push-one : (f : Right) (b : ℕ) (s : List ℕ) → (f .from ≡ 0 → ⊥) → Holds f s → Holds (at (set (f .text) (f .from - 1) b) (f .from - 1)) (b ∷ s)
-push-one f b s n h =
-    let k : suc (f .from - 1) + length s ≡ 20 = omega (arith, h .from) in
-    record {
-      text = ap (λ (t : List ℕ). set t (f .from - 1) b) (h .text) ∙ right-more (f .from - 1) 20 b s k;
-      from = omega (arith, h .from);
-    }
+pub push-one : (t : List ℕ) (from b : ℕ) (s : List ℕ) → (from ≡ 0 → ⊥) → Holds t from s → Holds (set t (from - 1) b) (from - 1) (b ∷ s)
+push-one t from b s n h =
+    let k : suc (from - 1) + length s ≡ 20 = omega (arith, h .place) in
+    record { text = ap (λ (x : List ℕ). set x (from - 1) b) (h .text) ∙ right-more (from - 1) 20 b s k; place = omega (arith, h .place) }
 
 -- a port's digits
 
@@ -51,13 +44,15 @@ port-two p h k =
 
 -- before other ports
 
-pub first-port : (f r : Right) (p : ℕ) (l : List ℕ) → f .from ≡ 20 → ((s : List ℕ) → Holds f s → Holds r (decimal p ++ s)) → Holds f (commas l) → Holds r (commas (p ∷ l))
-first-port f r p [] e g h = subst (λ (s : List ℕ). Holds r s) (append-nil (decimal p)) (g [] h)
-first-port f r p (m ∷ l) e g h = absurd (omega (arith, h .from, commas-some m l))
+pub first-port : (t u : List ℕ) (from r p : ℕ) (l : List ℕ) → from ≡ 20 → ((s : List ℕ) → Holds t from s → Holds u r (decimal p ++ s)) → Holds t from (commas l)
+    → Holds u r (commas (p ∷ l))
+first-port t u from r p [] e g h = subst (λ (s : List ℕ). Holds u r s) (append-nil (decimal p)) (g [] h)
+first-port t u from r p (m ∷ l) e g h = absurd (omega (arith, h .place, commas-some m l))
 
-pub more-ports : (f r : Right) (p : ℕ) (l : List ℕ) → (f .from ≡ 20 → ⊥) → ((s : List ℕ) → Holds f s → Holds r (decimal p ++ (comma ∷ s))) → Holds f (commas l) → Holds r (commas (p ∷ l))
-more-ports f r p [] n g h = absurd (n (h .from))
-more-ports f r p (m ∷ l) n g h = g (commas (m ∷ l)) h
+pub more-ports : (t u : List ℕ) (from r p : ℕ) (l : List ℕ) → (from ≡ 20 → ⊥) → ((s : List ℕ) → Holds t from s → Holds u r (decimal p ++ (comma ∷ s))) → Holds t from (commas l)
+    → Holds u r (commas (p ∷ l))
+more-ports t u from r p [] n g h = absurd (n (h .place))
+more-ports t u from r p (m ∷ l) n g h = g (commas (m ∷ l)) h
 
 -- the ports from i on, in a set
 
@@ -87,13 +82,13 @@ all-ports mask = ap (λ (m : ℕ). portsFrom 16 0 m) (div-one mask)
 
 -- none, or some
 
-pub none-there : (f : Right) (l : List ℕ) → Holds f (commas l) → f .from ≡ 20 → right 20 (hyphen ∷ []) ≡ right 20 (text (ports l))
-none-there f [] h e = refl
-none-there f (p ∷ l) h e = absurd (omega (arith, h .from, commas-some p l))
+pub none-there : (t : List ℕ) (from : ℕ) (l : List ℕ) → Holds t from (commas l) → from ≡ 20 → right 20 (hyphen ∷ []) ≡ right 20 (text (ports l))
+none-there t from [] h e = refl
+none-there t from (p ∷ l) h e = absurd (omega (arith, h .place, commas-some p l))
 
-pub some-there : (f : Right) (l : List ℕ) → Holds f (commas l) → (f .from ≡ 20 → ⊥) → f .text ≡ right 20 (text (ports l))
-some-there f [] h n = absurd (n (h .from))
-some-there f (p ∷ l) h n = h .text
+pub some-there : (t : List ℕ) (from : ℕ) (l : List ℕ) → Holds t from (commas l) → (from ≡ 20 → ⊥) → t ≡ right 20 (text (ports l))
+some-there t from [] h n = absurd (n (h .place))
+some-there t from (p ∷ l) h n = h .text
 
 -- digits that stand after blanks
 pub digits-right : (t s : List ℕ) (from : ℕ) → drop from t ≡ s → length t ≡ 20 → from ≤ 20 → take from t ≡ replicate from blank → t ≡ right 20 s

@@ -17,7 +17,6 @@ use Rattle.desk_follower.specs.declared.Follower.{Follower}
 use Rattle.desk_follower.specs.declared.Shown.{Shown}
 use Rattle.desk_report.specs.declared.page.Figure as code
 use Rattle.desk_report.specs.declared.page.Page.{Page}
-use Rattle.desk_report.specs.declared.text.Right.{Right}
 
 abbrev pub given : ℕ → code.Figure
 given n = record { present = 1; value = n }
@@ -79,7 +78,7 @@ pageAt s (Shown.Picture p) = showingPage s p
 abbrev pub pageFor : Follower → Page
 pageFor f = pageAt (stateOf f) (f .shown)
 
--- a text stands at the right of the columns; of one that is longer its end
-pub record Holds (f : Right) (s : List ℕ) : Type 0 where
-  pub text : f .text ≡ right 20 s
-  pub from : f .from ≡ 20 - length s
+-- a text stands at the right of the columns t, from a place on; of one that is longer its end
+pub record Holds (t : List ℕ) (from : ℕ) (s : List ℕ) : Type 0 where
+  pub text : t ≡ right 20 s
+  pub place : from ≡ 20 - length s

@@ -1,5 +1,4 @@
 // The page of a follower (S1): six lines of 40 columns and a newline, a name and a figure each.
-use crate::text::Right;
 use crate::text::digits_of;
 use crate::text::put;
 use desk_follower::Follower;
@@ -160,65 +159,58 @@ fn state_columns(state: State) -> [u8; 20]
     }
 }
 
-// One byte before a text; one that fills the columns stays.
-fn push(f: Right, b: u8) -> Right
-    requires { ⌜ f .from ≤ 20 ⌝ }
-    ensures { λ r. ⌜ (r .from ≤ 20) × ((s : List ℕ) → Holds f s → Holds r (b ∷ s)) ⌝ }
+// One byte before a text that stands from a place on; returns where it then begins. A text that fills the columns stays.
+fn push(text: &mut [u8; 20], from: usize, b: u8) -> usize
+    requires { ⌜ from ≤ 20 ⌝ }
+    ensures { λ r. ⌜ (r ≤ 20) × ((s : List ℕ) → Holds (now (text .entry)) from s → Holds (now (text .exit)) r (b ∷ s)) ⌝ }
 {
-    let from = f.from;
     if from == 0 {
-        return f;
+        return 0;
     }
-    let mut text = f.text;
     text[from - 1] = b;
-    Right {
-        text,
-        from: from - 1,
-    }
+    from - 1
 }
 
 // The digits of a port before a text.
-fn push_port(f: Right, port: u8) -> Right
-    requires { ⌜ (f .from ≤ 20) × (port < 16) ⌝ }
-    ensures { λ r. ⌜ (r .from ≤ 20) × ((s : List ℕ) → Holds f s → Holds r (decimal port ++ s)) ⌝ }
+fn push_port(text: &mut [u8; 20], from: usize, port: u8) -> usize
+    requires { ⌜ (from ≤ 20) × (port < 16) ⌝ }
+    ensures { λ r. ⌜ (r ≤ 20) × ((s : List ℕ) → Holds (now (text .entry)) from s → Holds (now (text .exit)) r (decimal port ++ s)) ⌝ }
 {
-    let last = push(f, 48 + port % 10);
+    let last = push(text, from, 48 + port % 10);
     if port < 10 {
         return last;
     }
-    push(last, 49)
+    push(text, last, 49)
 }
 
 // A port before those that stand there, with a comma between.
-fn with_port(f: Right, port: u8) -> Right
-    requires { ⌜ (f .from ≤ 20) × (port < 16) ⌝ }
-    ensures { λ r. ⌜ (r .from ≤ 20) × ((l : List ℕ) → Holds f (commas l) → Holds r (commas (port ∷ l))) ⌝ }
+fn with_port(text: &mut [u8; 20], from: usize, port: u8) -> usize
+    requires { ⌜ (from ≤ 20) × (port < 16) ⌝ }
+    ensures { λ r. ⌜ (r ≤ 20) × ((l : List ℕ) → Holds (now (text .entry)) from (commas l) → Holds (now (text .exit)) r (commas (port ∷ l))) ⌝ }
 {
-    if f.from == 20 {
-        return push_port(f, port);
+    if from == 20 {
+        return push_port(text, from, port);
     }
-    push_port(push(f, b','), port)
+    let after = push(text, from, b',');
+    push_port(text, after, port)
 }
 
 // The tracked ports, rising; the last is stored first.
 fn ports_columns(tracked: Providers) -> [u8; 20]
     ensures { λ r. ⌜ r ≡ right 20 (text (ports (portsBytes (tracked .mask)))) ⌝ }
 {
-    let mut f = Right {
-        text: [b' '; 20],
-        from: 20,
-    };
+    let mut text = [b' '; 20];
+    let mut from: usize = 20;
     let mut i = MAX_PORTS;
     while 0 < i {
         i -= 1;
         if tracked.contains(i) {
-            f = with_port(f, i);
+            from = with_port(&mut text, from, i);
         }
     }
-    if f.from == 20 {
+    if from == 20 {
         return absent_columns();
     }
-    let text = f.text;
     text
 }
 
