@@ -11,8 +11,8 @@ call left out. Changes that do not compile, or that compile to the same code, ar
 A function is proved from its own code and from the contracts of what it calls, so the changes of different functions are judged in one run, at most one
 in a function. A change is refused by a fact (something of its function is no longer proved) or by the fit (its proof file names what is no longer
 there); what is not proved in the end for neither reason is tried again alone, and listed as undecided if that does not help. A program that is
-still proved is run on its input, and refused if it writes something else than its file stdout, or by its own test (tests/CRATE.sh) if that needs nothing
-else; so are, of a library that calls the system (crates.txt: it lists libc), the programs that stand on it.
+still proved is run on its input, and refused if it writes something else than its file stdout, or by its own test (tests/CRATE.sh); so are, of a library
+that calls the system (crates.txt: it lists libc), the programs that stand on it.
 
 tests/second-programs.equal names the changes that leave the behaviour the same, a line each: FUNCTION | OLD | NEW | why. Any other change that is still
 proved makes the exit status 1. All is drawn from the seed: the same options and crates give the same changes, unless time runs out.
@@ -252,6 +252,9 @@ class Place:
             old = os.path.join(ROOT, "target", name)
             if os.path.isdir(old):
                 shutil.copytree(old, os.path.join(folder, "target", name))
+        os.makedirs(os.path.join(folder, "target"), exist_ok=True)
+        for name in ("rust", "examples", os.path.join("target", "rust")):
+            os.symlink(os.path.join(ROOT, name), os.path.join(folder, name))
 
     def run(self, words, seconds=1200):
         """The status and the output of a command; no status if it does not end in time, and then it is ended with all that it started."""
@@ -357,10 +360,6 @@ def judge(place, crate, batch):
             c.verdict = "fit"
 
 
-# The programs whose test needs nothing but the program.
-ALONE = {"follow"}
-
-
 def is_program(crate):
     return os.path.exists(os.path.join(ROOT, "crates", crate, "src", "main.rt"))
 
@@ -376,14 +375,15 @@ def programs(crate):
 
 def runs(place, crate, batch):
     """Whether the programs with these changes write what their files stdout have, run without their proof where the toolchain can, else with it; and pass their
-    own test, where it needs nothing else. A program that does not end within ten minutes, its proof included, does not."""
+    own tests, tests/PROGRAM.sh, where they have one. One that does not end within ten minutes, its proof included, does not."""
     place.write(crate, batch)
     return all(run_one(place, program, batch) for program in programs(crate))
 
 
 def run_one(place, program, batch):
-    if program in ALONE:
-        return place.run(["rt", "check", program], 600)[0] == 0 and place.run(["sh", "tests/%s.sh" % program], 300)[0] == 0
+    test = os.path.join("tests", program + ".sh")
+    if os.path.exists(os.path.join(ROOT, test)):
+        return place.run(["rt", "check", program], 600)[0] == 0 and place.run([test], 300)[0] == 0
     status, said = place.run(["rt", "try", program], 300)
     if status != 0 and not batch:
         place.tries = False

@@ -55,17 +55,11 @@ fn write_page(out: &[u8; 246]) {
 // Of an input that cannot be read to its end there is no page.
 fn sheet() {
     let mut out = [0u8; 246];
-    match read_page(&mut out) {
-        End::Read => {
-            write_page(&out);
-        }
-        End::Unread => {
-            io::write_all(STDERR_FILENO, b"sheet: standard input cannot be read\n");
-        }
-        End::Unwritten => {
-            write_page(&out);
-        }
+    if let End::Unread = read_page(&mut out) {
+        io::write_all(STDERR_FILENO, b"sheet: standard input cannot be read\n");
+        return;
     }
+    write_page(&out);
 }
 
 // The first argument is the program's own name.
