@@ -1,1 +1,2 @@
 // Our exported functions as a record of functions. No code.
+#![tactic(auto)]

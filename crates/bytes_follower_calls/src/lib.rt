@@ -1,4 +1,6 @@
 // The calls on the follower's image. What is held stays in the image; a call that is turned back leaves every byte as it was.
+#![tactic(auto)]
+
 ghost use Rattle.std.specs.Prelude.{◌≡◌};
 ghost use Rattle.abstract_calls.specs.Numbers.{refused_number, done_number};
 ghost use Rattle.bytes_follower_image.specs.Image.{follower_from};

@@ -1,4 +1,6 @@
 // The follower's image: 241 bytes (docs/STATE.md). What it shows is read and written here; what is held stays in its slots.
+#![tactic(auto)]
+
 pub mod held;
 pub mod notice;
 pub mod slot;

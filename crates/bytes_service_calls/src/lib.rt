@@ -1,5 +1,7 @@
 // The calls on the service's image: each reads the image, calls the service by value, and writes the image back. A call that is turned back leaves every byte
 // as it was.
+#![tactic(auto)]
+
 ghost use Rattle.std.specs.Prelude.{◌≡◌};
 ghost use Rattle.machine_service.specs.Service.{open_of, answer_of};
 ghost use Rattle.abstract_calls.specs.Lent.{packet_call, picture_call};

@@ -1,5 +1,7 @@
 // The service's image: 67 bytes that the firmware keeps between calls (docs/STATE.md). A service has one image, and bytes are read only
 // if they are that of a well-formed service.
+#![tactic(auto)]
+
 pub mod well_formed;
 
 ghost use Rattle.std.specs.Prelude.{◌≡◌, cond, eqb, length};

@@ -1,4 +1,6 @@
 // A take on the follower's image: what is held stays in its slots, and only what the packet changes is written.
+#![tactic(auto)]
+
 pub mod turn;
 
 ghost use Rattle.std.specs.Prelude.{◌≡◌, true, cond, ◌++◌, ◌+◌, ◌*◌, ◌-◌, ◌<◌, min, eqb, length, get_or, take, drop, replicate};

@@ -1,4 +1,6 @@
 // The desk's follower: what it shows, and what a packet makes of it.
+#![tactic(auto)]
+
 pub mod held;
 
 ghost use Rattle.std.specs.Prelude.{◌≡◌};

@@ -1,5 +1,7 @@
 // The program `follow` (PRG): packets on standard input, each after its length, and after a header a line for each on standard output. The
 // run is the crate `desk_stream`'s; that it writes `follow` of the whole input is desk_report's theorem `run_is_follow`.
+#![tactic(auto)]
+
 use desk_report::desk::Desk;
 use desk_stream::End;
 use desk_stream::sink::Sink;

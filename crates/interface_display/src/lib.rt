@@ -1,5 +1,7 @@
 // What the service holds between events and the follower shows: the consumer, the unconstrained figures and the tracked providers;
 // and the notices that lead from one event to the next. Service and follower share these types and their meaning.
+#![tactic(auto)]
+
 pub mod notices;
 pub mod packet;
 pub mod providers;

@@ -1,5 +1,7 @@
 // An event from its port to its close: the provider's steps (provider.rs), what an event does (service/mod.rs), and what an answer
 // to its open order leads to.
+#![tactic(auto)]
+
 ghost use Rattle.std.specs.Prelude.{◌≡◌};
 ghost use Rattle.machine_process.specs.Process.{request_of, connect_provider_of, post_provider_of, remove_provider_of, depart_of, process_of, following, next_from, settle_of, after_stage, after_order, answered_of};
 

@@ -1,4 +1,6 @@
 // The service between calls: a start, and then one call for each event and for each answer to an order.
+#![tactic(auto)]
+
 pub mod refusals;
 pub mod send;
 

@@ -1,4 +1,6 @@
 // The update of the consumer from one order to the next (consumer.rs). Where the Rust awaits a device, a step ends at a phase.
+#![tactic(auto)]
+
 ghost use Rattle.std.specs.Prelude.{◌≡◌};
 ghost use Rattle.abstract_policy.specs.Interaction.{available_of, offers_unconstrained, consumer_flag, reason_of, same_available, find_best_consumer, is_connected_consumer};
 ghost use Rattle.machine_update.specs.Update.{closed, at, updated_to, finish_update_of, connect_psu_of, switch_of, disconnect_of, connect_new_of, left_of, leave_of, connecting_phase, charge_of, charge_stage, update_of};

@@ -1,5 +1,7 @@
 // The C functions (SHP-7), on numbers and byte slices (docs/STATE.md, include/power_policy.h).
 // Each returns one 64-bit number; a call that is turned back leaves every byte that it was lent.
+#![tactic(auto)]
+
 ghost use Rattle.std.specs.Prelude.{◌≡◌};
 ghost use Rattle.abstract_calls.specs.Functions.{arguments};
 ghost use Rattle.abi_functions.specs.Ours.{functions};

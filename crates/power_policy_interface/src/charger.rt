@@ -135,7 +135,7 @@ impl State {
 
     // The error of a transition that the state does not allow; the record stays.
     fn invalid(self) -> Transition
-        ensures* { λ r. ⌜ r ≡ record { result = Result.Err (ChargerError.InvalidState self.state); state = self } ⌝ }
+        ensures { result ≡ record { result = Result.Err (ChargerError.InvalidState self.state); state = self } }
     {
         let state = self.state;
         Transition {

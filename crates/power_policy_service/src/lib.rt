@@ -1,4 +1,6 @@
 // The power policy service, by value (power-policy-service). An event is opened and then answered, one device order at a time.
+#![tactic(auto)]
+
 pub mod config;
 pub mod consumer;
 pub mod provider;

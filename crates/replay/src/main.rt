@@ -1,6 +1,8 @@
 // Replays answers of the original Rust, and of REF-22 for bad input, which stand on standard input as vectors of 49 bytes:
 // an operation, the record before (18), an argument (6), the result (6) and the record after (18). rust/README.md says what
 // each operation is. It writes how many vectors there were and how many differ, and the first that does.
+#![tactic(auto)]
+
 ghost use Rattle.std.specs.Prelude.{◌≡◌, ◌<◌, length};
 
 use interface_records::charger::ReadCharger;

@@ -1,6 +1,8 @@
 // Replays runs of the original Rust through the service. They stand on standard input as rust/oracle/src/stream.rs lays them out: each
 // start, event and answer, with what the Rust did. It writes how many events there were, how many outcomes were compared and
 // how many differ, and the first that does.
+#![tactic(auto)]
+
 ghost use Rattle.std.specs.Prelude.{◌≤◌};
 
 use abstract_policy::order::Order;

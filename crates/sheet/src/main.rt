@@ -1,6 +1,8 @@
 // The program `sheet` (S1-10, S1-11): packets on standard input, as `follow` reads them; those that are refused are told on standard error,
 // and at the end the page of what the follower then shows goes to standard output. The run is the crate `desk_stream`'s, the page
 // desk_report's; that both are those of the whole input, however it is read, are its theorems `sheet_tells` and `sheet_shows_lem`.
+#![tactic(auto)]
+
 ghost use Rattle.std.specs.Prelude.{◌≡◌, List, ℕ};
 ghost use Rattle.desk_report.specs.Page.{page_bytes, page_for};
 ghost use Rattle.desk_report.specs.Sheet.{sheet_page, sheet_run};

@@ -1,4 +1,6 @@
 // Packets in a stream: length# (1 to 64), packet, repeated (PRG-1).
+#![tactic(auto)]
+
 ghost use Rattle.std.specs.Prelude.{◌≡◌};
 ghost use Rattle.wire_framing.specs.Framing.{framed, sized};
 

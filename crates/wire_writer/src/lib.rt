@@ -1,4 +1,6 @@
 // Event packets and full pictures written as bytes (PKT-6 to PKT-16), which `wire` reads.
+#![tactic(auto)]
+
 ghost use Rattle.std.specs.Prelude.{◌≡◌, ◌+◌, ◌≤◌, length};
 ghost use Rattle.std.proofs.lemmas.List.Edits.{sets};
 ghost use Rattle.interface_display.specs.Notices.{listed};
