@@ -14,7 +14,7 @@ import sys
 
 MARKS = r"(?:(?:abbrev|unfoldable|pub|pattern) )*"
 DECL = re.compile(r"^(" + MARKS + r")(data |record )?([^\s:(){}\[\]=,;]+)([^:=]*?)? ?:(?:\s|$)")
-FIELD = re.compile(r"^  +(?:pub )?([A-Za-z][\w'′-]*(?: [A-Za-z][\w'′-]*)*) :(?:\s|$)")
+FIELD = re.compile(r"^  +" + MARKS + r"([A-Za-z][\w'′-]*(?: [A-Za-z][\w'′-]*)*) :(?:\s|$)")
 TOKEN = re.compile(r"(?<![\w'′·-])[A-Za-zα-ω][\w'′]*(?:-[\w'′+*≡<≤]+)*(?![\w'′·])")
 
 
@@ -81,6 +81,11 @@ def plan(root):
             continue
         with open(path, encoding="utf-8") as f:
             text = f.read()
+        # fields and constructors, and what stands in a module with parameters
+        for line in text.split("\n"):
+            m = FIELD.match(line)
+            if m and line.startswith("  ") and not line.startswith("   "):
+                declared.update(m.group(1).split())
         for name, data, sig, fields in signatures(text):
             declared.add(name)
             declared.update(fields)
@@ -145,6 +150,16 @@ def respelled(text, names, rt):
     return "\n".join(out)
 
 
+def from_elsewhere(text, own):
+    """The names that a file imports from the library."""
+    found = set()
+    for module, items in re.findall(r"(?m)^(?:ghost )?use ([^\s{};]+)\.\{([^}]*)\}", text):
+        part = module.split(".")
+        if part[0] != "Rattle" or part[1] not in own:
+            found.update(i.split(" as ")[0].strip() for i in items.split(","))
+    return found
+
+
 def main():
     dry = "--dry" in sys.argv
     root = [a for a in sys.argv[1:] if not a.startswith("-")][0]
@@ -158,10 +173,12 @@ def main():
         return 0
     if same:
         return 1
+    crates = set(os.listdir(os.path.join(root, "crates")))
     for path in files(root):
         with open(path, encoding="utf-8") as f:
             text = f.read()
-        own = dict(names)
+        others = from_elsewhere(text, crates)
+        own = {n: new for n, new in names.items() if n not in others}
         for name, modules in both.items():
             if any(m == module_of(path) or re.search(r"(?m)^(?:ghost )?use " + re.escape(m) + r"\.\{[^}]*(?<![\w'-])" + name + r"(?![\w'-])", text) for m in modules):
                 own[name] = upper(name)

@@ -40,8 +40,8 @@ use Rattle.abstract_calls.proofs.Results.{refused_low, order_low, closed_low, wr
 -- one field after the other
 
 module _ (w a b c d e : ℕ) (hw : w < 256) (ha : a < 256) where
-  field-1 : packed w a b c d e / 256 % 256 ≡ a
-  field-1 = omega arith
+  field_1 : packed w a b c d e / 256 % 256 ≡ a
+  field_1 = omega arith
 
   module _ (hb : b < 256) where
     field-2 : packed w a b c d e / 65536 % 256 ≡ b
@@ -68,7 +68,7 @@ record Alike (a b c d e p q r s t : ℕ) : Type 0 where
 module _ {w a b c d e v p q r s t : ℕ} (hw : w < 256) (ha : a < 256) (hb : b < 256) (hc : c < 256) (hv : v < 256) (hp : p < 256) (hq : q < 256) (hr : r < 256) where
   alike : packed w a b c d e ≡ packed v p q r s t → Alike a b c d e p q r s t
   alike x = record {
-    one = sym (field-1 w a b c d e hw ha) ∙ (ap (λ (n : ℕ). n / 256 % 256) x ∙ field-1 v p q r s t hv hp);
+    one = sym (field_1 w a b c d e hw ha) ∙ (ap (λ (n : ℕ). n / 256 % 256) x ∙ field_1 v p q r s t hv hp);
     two = sym (field-2 w a b c d e hw ha hb) ∙ (ap (λ (n : ℕ). n / 65536 % 256) x ∙ field-2 v p q r s t hv hp hq);
     three = sym (field-3 w a b c d e hw ha hb hc) ∙ (ap (λ (n : ℕ). n / 16777216 % 256) x ∙ field-3 v p q r s t hv hp hq hr);
     four = sym (fields-4 w a b c d e hw ha hb hc) ∙ (ap (λ (n : ℕ). n / 4294967296) x ∙ fields-4 v p q r s t hv hp hq hr);

@@ -21,8 +21,8 @@ use Rattle.abstract_calls.specs.Numbers.{refused_number}
 use Rattle.abstract_calls.proofs.Results.{written_low}
 
 module _ (page buffer : List ℕ) where
-  pub page-refuses : Refuses (page_conditions buffer) (page_call page buffer).number
-  page-refuses = go (ltb (length buffer) page_length)
+  pub page_refuses : Refuses (page_conditions buffer) (page_call page buffer).number
+  page_refuses = go (ltb (length buffer) page_length)
     where
       go : (t : Bool) → Refuses ((t, 34) ∷ []) (written_as (cond t (Written.Refused 34) (Written.Length (length page))))
       go true = record { first = first ((true, 34) ∷ []) refl; turned_back = λ d. refl; accepted = λ z. absurd (omega (arith, z)) }
@@ -32,8 +32,8 @@ module _ (page buffer : List ℕ) where
         accepted = λ z k. let w : ◌≡◌ {A = ℕ} 3 0 = sym (written_low (length page)) ∙ k in omega (arith, w);
       }
 
-  pub page-back : (page_call page buffer).number % 256 ≡ 0 → (page_call page buffer).bytes ≡ buffer
-  page-back = go (ltb (length buffer) page_length)
+  pub page_back : (page_call page buffer).number % 256 ≡ 0 → (page_call page buffer).bytes ≡ buffer
+  page_back = go (ltb (length buffer) page_length)
     where
       go : (t : Bool) → written_as (cond t (Written.Refused 34) (Written.Length (length page))) % 256 ≡ 0 → cond t buffer (sets buffer 0 page) ≡ buffer
       go true k = refl

@@ -183,36 +183,36 @@ six_fit a b c d e f ha hb hc hd he hf =
     (record { name = refl; figure = ha }, (record { name = refl; figure = hb }, (record { name = refl; figure = hc }, (record { name = refl; figure = hd }, (record { name = refl; figure = he }, (record { name = refl; figure = hf }, tt))))))
 
 module _ (s : State) (n : ℕ) (d : Display) (h : picture_fits (record { number = n; display = d }) ≡ true) where
-  number-below : n < 10 ^ 10
+  number_below : n < 10 ^ 10
   unfolding picture_fits
-  number-below = omega (arith, leb-true n largest (and_left (leb n largest) _ h))
+  number_below = omega (arith, leb-true n largest (and_left (leb n largest) _ h))
 
-  display-fits : consumer_fits d.consumer && (leb d.unconstrained.available max_ports && (ltb d.providers.mask 65536 && leb (len d.providers) max_connected_providers)) ≡ true
+  display_fits : consumer_fits d.consumer && (leb d.unconstrained.available max_ports && (ltb d.providers.mask 65536 && leb (len d.providers) max_connected_providers)) ≡ true
   unfolding picture_fits
-  display-fits = and_right (leb n largest) _ h
+  display_fits = and_right (leb n largest) _ h
 
   few : leb (len d.providers) max_connected_providers ≡ true
-  few = and_right (ltb d.providers.mask 65536) _ (and_right (leb d.unconstrained.available max_ports) _ (and_right (consumer_fits d.consumer) _ display-fits))
+  few = and_right (ltb d.providers.mask 65536) _ (and_right (leb d.unconstrained.available max_ports) _ (and_right (consumer_fits d.consumer) _ display_fits))
 
-  of-consumer : (f : AvailableConsumer → ℕ) → ((a : AvailableConsumer) → consumer_fits (OptionAvailableConsumer.Some a) ≡ true → f a < 10 ^ 10)
+  of_consumer : (f : AvailableConsumer → ℕ) → ((a : AvailableConsumer) → consumer_fits (OptionAvailableConsumer.Some a) ≡ true → f a < 10 ^ 10)
       → FigureFits (of_consumer f d.consumer)
-  of-consumer f h = consumer_fits_lem f d.consumer h (and_left (consumer_fits d.consumer) _ display-fits)
+  of_consumer f h = consumer_fits_lem f d.consumer h (and_left (consumer_fits d.consumer) _ display_fits)
 
-  tracked-fit : FigureFits (ports (ports_bytes d.providers.mask))
-  tracked-fit = set_fits d.providers few
+  tracked_fit : FigureFits (ports (ports_bytes d.providers.mask))
+  tracked_fit = set_fits d.providers few
 
-  shown-fit : AllFit (shown_entries s n d)
-  shown-fit =
+  shown_fit : AllFit (shown_entries s n d)
+  shown_fit =
       six_fit (one n) (state s)
       (of_consumer (λ c. c.psu) d.consumer)
       (of_consumer millivolts d.consumer)
       (of_consumer milliamps d.consumer)
       (ports (ports_bytes d.providers.mask))
-      (one_fits n number-below) tt
-      (of-consumer (λ c. c.psu) (λ a e. omega (arith, leb-true a.psu 15 (and_left (leb a.psu 15) _ e))))
-      (of-consumer millivolts (λ a e. omega (arith, leb-true (millivolts a) 65535 (and_left (leb (millivolts a) 65535) (leb (milliamps a) 65535) (and_right (leb a.psu 15) _ e)))))
-      (of-consumer milliamps (λ a e. omega (arith, leb-true (milliamps a) 65535 (and_right (leb (millivolts a) 65535) (leb (milliamps a) 65535) (and_right (leb a.psu 15) _ e)))))
-      tracked-fit
+      (one_fits n number_below) tt
+      (of_consumer (λ c. c.psu) (λ a e. omega (arith, leb-true a.psu 15 (and_left (leb a.psu 15) _ e))))
+      (of_consumer millivolts (λ a e. omega (arith, leb-true (millivolts a) 65535 (and_left (leb (millivolts a) 65535) (leb (milliamps a) 65535) (and_right (leb a.psu 15) _ e)))))
+      (of_consumer milliamps (λ a e. omega (arith, leb-true (milliamps a) 65535 (and_right (leb (millivolts a) 65535) (leb (milliamps a) 65535) (and_right (leb a.psu 15) _ e)))))
+      tracked_fit
 
 -- a page has its length, and is read as what it says
 
@@ -228,7 +228,7 @@ lost_read = lines_read lost_entries (six_fit absent (state State.Lost) absent ab
 
 pub shown_read_lem : (s : State) (n : ℕ) (d : Display) → picture_fits (record { number = n; display = d }) ≡ true → read_page (lines (shown_entries s n d)) ≡ shown_entries s n d
 unfolding read_page
-shown_read_lem s n d h = lines_read (shown_entries s n d) (shown-fit s n d h)
+shown_read_lem s n d h = lines_read (shown_entries s n d) (shown_fit s n d h)
 
 pub page_length_lem : (p : desk.Follower) → length (page_of p) ≡ page_length
 page_length_lem (desk.lost floor) = lost_length

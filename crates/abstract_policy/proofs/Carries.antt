@@ -49,12 +49,12 @@ module _ (d : Display) where
   told_none : (p : ℕ) (f : DisconnectFlags) → TellsTo (Event.ConsumerDisconnected p f) (Ahead OptionAvailableConsumer.None) Old
   told_none p f h q = q ∙ sym (applied_last h.notices (Event.ConsumerDisconnected p f) d)
 
-  told-new : (c : AvailableConsumer) → TellsTo (connected_event c) (Ahead (OptionAvailableConsumer.Some c)) Old
-  told-new c h q = q ∙ sym (applied_last h.notices (connected_event c) d)
+  told_new : (c : AvailableConsumer) → TellsTo (connected_event c) (Ahead (OptionAvailableConsumer.Some c)) Old
+  told_new c h q = q ∙ sym (applied_last h.notices (connected_event c) d)
 
   connect : (g : Registration) (new : AvailableConsumer) → From Old (connect_consumer g new) Old
   connect g new =
-      connects {P = Old} {A = Ahead (OptionAvailableConsumer.Some new)} {Q = Old} g new (ahead (OptionAvailableConsumer.Some new)) (told-new new)
+      connects {P = Old} {A = Ahead (OptionAvailableConsumer.Some new)} {Q = Old} g new (ahead (OptionAvailableConsumer.Some new)) (told_new new)
 
   disconnect : (g : Registration) (current new : AvailableConsumer) (f : DisconnectFlags) → From Old (disconnect_current g current new f) Old
   disconnect g current new f =
@@ -97,9 +97,9 @@ module _ (d : Display) where
       (λ u h p. ap (λ (x : Display). set_unconstrained x u) p)
       (λ u h p. p ∙ sym (applied_last h.notices (Event.Unconstrained u) d))
 
-  best-from : (g : Registration) (f : DisconnectFlags) (s : InternalState) (r : Records) →
+  best_from : (g : Registration) (f : DisconnectFlags) (s : InternalState) (r : Records) →
       From (λ h. Old h × (h.state ≡ s)) (connect_best g (find_best_consumer g s r) s.current_consumer_state f) Old
-  best-from g f s r = record {
+  best_from g f s r = record {
     goes = λ C h r' k p q.
         (bests g (find_best_consumer g s r) s.current_consumer_state f).goes C h r' k (p.0, ap (λ (x : InternalState). x.current_consumer_state) p.1) q;
   }
@@ -109,7 +109,7 @@ module _ (d : Display) where
   unfolding update_current_consumer
   updates g f =
       reads (λ s r. connect_best g (find_best_consumer g s r) s.current_consumer_state f >> update_unconstrained_state g) (λ h r k. refl)
-      (λ s r. then (best-from g f s r) (figure g))
+      (λ s r. then (best_from g f s r) (figure g))
 
   -- providers
 

@@ -82,17 +82,17 @@ module _ (n : ℕ) (c : OptionAvailableConsumer) where
     open-left : p.number ≡ n → Left c p.stand
     closed : p.number ≡ suc n → p.answer ≡ Result.Ok → p.state.current_consumer_state ≡ c
 
-  proceeds-since : (p : Policy) (m : ℕ) (i : Interaction) → n ≤ p.number → (p.number ≡ n → Chooses c i) →
+  proceeds_since : (p : Policy) (m : ℕ) (i : Interaction) → n ≤ p.number → (p.number ≡ n → Chooses c i) →
       (p.number ≡ suc n → p.answer ≡ Result.Ok → p.state.current_consumer_state ≡ c) → Since (proceeds p m i)
-  proceeds-since p m (done a h) le left cl = record {
+  proceeds_since p m (done a h) le left cl = record {
     reached = omega (arith, le);
     open-left = λ e. absurd (omega (arith, le, e));
     closed = λ e ok. ends_ok (Consumes c) a h (left (omega (arith, e))) ok;
   }
-  proceeds-since p m (ask o k) le left cl = record { reached = le; open-left = left; closed = cl }
+  proceeds_since p m (ask o k) le left cl = record { reached = le; open-left = left; closed = cl }
 
-  opens-since : (p : Policy) (kind device detail : ℕ) (r : Records) → Since p → Since (opens p kind device detail r)
-  opens-since p kind device detail r s = go (eqb (open_refused p kind device detail) 0) refl (eqb kind 5)
+  opens_since : (p : Policy) (kind device detail : ℕ) (r : Records) → Since p → Since (opens p kind device detail r)
+  opens_since p kind device detail r s = go (eqb (open_refused p kind device detail) 0) refl (eqb kind 5)
     where
       i : Interaction
       i = event p.registration device (event_of kind detail) p.state r
@@ -106,29 +106,29 @@ module _ (n : ℕ) (c : OptionAvailableConsumer) where
       go : (a : Bool) → eqb (open_refused p kind device detail) 0 ≡ a → (b : Bool) → Since (cond a (cond b p (proceeds p 0 i)) p)
       go true e true = s
       go true e false =
-          proceeds-since p 0 i s.reached
+          proceeds_since p 0 i s.reached
           (λ q. absurd (refused p.stand (s.open-left q) (eqb-true (open_refused p kind device detail) 0 e)))
           s.closed
       go false e b = s
 
-  answers-since : (p : Policy) (t : Stand) (a : ℕ) (r : Records) → p.stand ≡ t → Since p → Since (answers t p a r)
-  answers-since p between a r e s = s
-  answers-since p (at m o k) a r e s = go (no_answer o a)
+  answers_since : (p : Policy) (t : Stand) (a : ℕ) (r : Records) → p.stand ≡ t → Since p → Since (answers t p a r)
+  answers_since p between a r e s = s
+  answers_since p (at m o k) a r e s = go (no_answer o a)
     where
       go : (b : Bool) → Since (cond b p (proceeds p m (k (result_of a) r)))
       go true = s
       go false =
-          proceeds-since p m (k (result_of a) r) s.reached (λ q. subst (λ t. Left c t) e (s.open-left q) (result_of a) r) s.closed
+          proceeds_since p m (k (result_of a) r) s.reached (λ q. subst (λ t. Left c t) e (s.open-left q) (result_of a) r) s.closed
 
-  after-since : (p : Policy) (call : Call) → Since p → Since (policy_after p call)
-  after-since p (open_event kind device detail r) s = opens-since p kind device detail r s
-  after-since p (give_answer a r) s = answers-since p p.stand a r refl s
-  after-since p write_packet s = s
-  after-since p write_picture s = s
+  after_since : (p : Policy) (call : Call) → Since p → Since (policy_after p call)
+  after_since p (open_event kind device detail r) s = opens_since p kind device detail r s
+  after_since p (give_answer a r) s = answers_since p p.stand a r refl s
+  after_since p write_packet s = s
+  after_since p write_picture s = s
 
-  calls-since : (l : List Call) (p : Policy) → Since p → Since (policies p l)
-  calls-since [] p s = s
-  calls-since (call ∷ l) p s = calls-since l (policy_after p call) (after-since p call s)
+  calls_since : (l : List Call) (p : Policy) → Since p → Since (policies p l)
+  calls_since [] p s = s
+  calls_since (call ∷ l) p s = calls_since l (policy_after p call) (after_since p call s)
 
 -- the kinds that update are the events that do, and none is the charger's
 updating : (kind detail : ℕ) → updates kind ≡ true → (updates_consumer (event_of kind detail) ≡ true) × (eqb kind 5 ≡ false)
@@ -152,7 +152,7 @@ open_since p kind device detail r e u =
     let c = find_best_consumer p.registration p.state r in
     subst (λ (x : Bool). Since p.number c (cond (eqb (open_refused p kind device detail) 0) (cond x p (proceeds p 0 i)) p)) (sym w.1)
     (subst (λ (x : ℕ). Since p.number c (cond (eqb x 0) (proceeds p 0 i) p)) (sym e)
-    (proceeds-since p.number c p 0 i (omega arith)
+    (proceeds_since p.number c p 0 i (omega arith)
     (λ q. event_chooses p.registration device (event_of kind detail) p.state r w.0)
     (λ q. absurd (omega (arith, q)))))
 
@@ -169,7 +169,7 @@ run_chooses g few = record {
       let p = policies (started g) l in
       let same = policies_append (started g) l (open_event kind device detail r ∷ m) in
       let opened = open_since p kind device detail r u.accepted u.updating in
-      let s = calls-since p.number (find_best_consumer p.registration p.state r) m (opens p kind device detail r) opened in
+      let s = calls_since p.number (find_best_consumer p.registration p.state r) m (opens p kind device detail r) opened in
       ap (λ (x : Policy). x.state.current_consumer_state) same
       ∙ s.closed (sym (ap (λ (x : Policy). x.number) same) ∙ n) (sym (ap (λ (x : Policy). x.answer) same) ∙ a);
 }

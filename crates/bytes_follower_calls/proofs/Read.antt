@@ -28,31 +28,31 @@ use Rattle.bytes_calls.specs.Calls.{put_follower, taken_call, take_on, take_call
 -- an image: what f makes of the follower, or z where there is none
 
 module _ {A : Type 0} (b : List ℕ) (r : ReadShown) (f : Follower → A) (z : A) where
-  pub on-refused : r ≡ shown_read (follower_in b) → r ≡ ReadShown.Refused → z ≡ cond (follower_from b).ok (f (follower_from b).follower) z
-  on-refused e q = sym (ap (λ (t : Bool). cond t (f (follower_from b).follower) z) (read_refused b (sym q ∙ e)))
+  pub on_refused : r ≡ shown_read (follower_in b) → r ≡ ReadShown.Refused → z ≡ cond (follower_from b).ok (f (follower_from b).follower) z
+  on_refused e q = sym (ap (λ (t : Bool). cond t (f (follower_from b).follower) z) (read_refused b (sym q ∙ e)))
 
-  pub on-lost : (floor : ℕ) → r ≡ ReadShown.Lost floor → ShownBy b r → f (lost floor) ≡ cond (follower_from b).ok (f (follower_from b).follower) z
-  on-lost floor q s =
+  pub on_lost : (floor : ℕ) → r ≡ ReadShown.Lost floor → ShownBy b r → f (lost floor) ≡ cond (follower_from b).ok (f (follower_from b).follower) z
+  on_lost floor q s =
       sym (ap (λ (x : ReadFollower). cond x.ok (f x.follower) z) (read_lost b floor (subst (λ (x : ReadShown). ShownBy b x) q s)))
 
-  pub on-picture : (p : Picture) (n : A) → r ≡ ReadShown.Picture p → ShownBy b r → ((h : Held) → ImageOf b p h → n ≡ f (showing p h))
+  pub on_picture : (p : Picture) (n : A) → r ≡ ReadShown.Picture p → ShownBy b r → ((h : Held) → ImageOf b p h → n ≡ f (showing p h))
       → n ≡ cond (follower_from b).ok (f (follower_from b).follower) z
-  on-picture p n q s g =
+  on_picture p n q s g =
       let i = subst (λ (x : ReadShown). ShownBy b x) q s in
       g i.0 i.1 ∙ sym (ap (λ (x : ReadFollower). cond x.ok (f x.follower) z) (read_showing b p i.0 i.1))
 
 -- a reader returns a number
 
 module _ (b : List ℕ) (r : ReadShown) (f : Follower → ℕ) where
-  pub by-refused : r ≡ shown_read (follower_in b) → r ≡ ReadShown.Refused → refused_number 21 ≡ reader_call (follower_from b) f
-  by-refused e q = on-refused b r f (refused_number 21) e q
+  pub by_refused : r ≡ shown_read (follower_in b) → r ≡ ReadShown.Refused → refused_number 21 ≡ reader_call (follower_from b) f
+  by_refused e q = on_refused b r f (refused_number 21) e q
 
-  pub by-lost : (floor : ℕ) → r ≡ ReadShown.Lost floor → ShownBy b r → f (lost floor) ≡ reader_call (follower_from b) f
-  by-lost floor q s = on-lost b r f (refused_number 21) floor q s
+  pub by_lost : (floor : ℕ) → r ≡ ReadShown.Lost floor → ShownBy b r → f (lost floor) ≡ reader_call (follower_from b) f
+  by_lost floor q s = on_lost b r f (refused_number 21) floor q s
 
-  pub by-picture : (p : Picture) (n : ℕ) → r ≡ ReadShown.Picture p → ShownBy b r → ((h : Held) → ImageOf b p h → n ≡ f (showing p h))
+  pub by_picture : (p : Picture) (n : ℕ) → r ≡ ReadShown.Picture p → ShownBy b r → ((h : Held) → ImageOf b p h → n ≡ f (showing p h))
       → n ≡ reader_call (follower_from b) f
-  by-picture p n q s g = on-picture b r f (refused_number 21) p n q s g
+  by_picture p n q s g = on_picture b r f (refused_number 21) p n q s g
 
 -- a packet
 
@@ -73,8 +73,8 @@ module _ (b x : List ℕ) where
       record { number = q.0; bytes = q.1 }
 
   -- an image has its length
-  ok-length : (follower_from b).ok ≡ true → eqb (length b) follower_length ≡ true
-  ok-length e = by (eqb (length b) follower_length) e
+  ok_length : (follower_from b).ok ≡ true → eqb (length b) follower_length ≡ true
+  ok_length e = by (eqb (length b) follower_length) e
     where
       by : (t : Bool) → (follower_read (cond (t && eqb (get_or b 0 0) 2) (get_or (follower_cases b) (get_or b 1 0) none) none)).ok ≡ true → t ≡ true
       by true q = refl
@@ -85,12 +85,12 @@ module _ (b x : List ℕ) where
       × ((cond t y (refused_call 21 b)).bytes ≡ cond t (follower_bytes (taken (follower_from b).follower p)) b)
   taken_at_lem p true y e q =
       let l : put_follower b (taken (follower_from b).follower p) ≡ follower_bytes (taken (follower_from b).follower p) =
-      ap (λ (t : Bool). cond t (follower_bytes (taken (follower_from b).follower p)) b) (ok-length e) in
+      ap (λ (t : Bool). cond t (follower_bytes (taken (follower_from b).follower p)) b) (ok_length e) in
       (ap (λ (c : Called). c.number) q, ap (λ (c : Called). c.bytes) q ∙ l)
   taken_at_lem p false y e q = (refl, refl)
 
-  pub packet-taken : (p : Packet) → read_packet x ≡ ReadPacket.Packet p → Returns done_number (taken_image b p)
-  packet-taken p e =
+  pub packet_taken : (p : Packet) → read_packet x ≡ ReadPacket.Packet p → Returns done_number (taken_image b p)
+  packet_taken p e =
       let y = taken_call b (follower_from b).follower (read_packet x) in
       let q = taken_at_lem p (follower_from b).ok y refl (ap (taken_call b (follower_from b).follower) e) in
       record { number = q.0; bytes = q.1 }

@@ -302,8 +302,8 @@ lost_tested b f false z a e x y q = absurd (let z : ◌≡◌ {A = ℕ} 0 1 = cc
 
 module _ (b : List ℕ) (a : AllBytes b) (e : length b ≡ 241) where
   -- each place is that of the next event, which stays empty, or of one that was read
-  read-places : (n : ℕ) (h : Held) → Rowed (n + 2) 7 (drop 17 b) nothing h → (i : ℕ) → i < 8 → InPlace (n + 2) (n + 8) i (packet_at h i) × Fit (packet_at h i)
-  read-places n h r i l = by (eqb i ((n + 1) % 8)) refl
+  read_places : (n : ℕ) (h : Held) → Rowed (n + 2) 7 (drop 17 b) nothing h → (i : ℕ) → i < 8 → InPlace (n + 2) (n + 8) i (packet_at h i) × Fit (packet_at h i)
+  read_places n h r i l = by (eqb i ((n + 1) % 8)) refl
     where
       one : (j : ℕ) → j % 8 ≡ i → n + 2 ≤ j → j < n + 2 + 7 → (held_for h j ≡ held.none) ⊎ (((held_for h j).number ≡ j) × (event_fits (held_for h j) ≡ true))
           → InPlace (n + 2) (n + 8) (j % 8) (held_for h j) × Fit (held_for h j)
@@ -330,9 +330,9 @@ module _ (b : List ℕ) (a : AllBytes b) (e : length b ≡ 241) where
           subst (λ (k : ℕ). InPlace (n + 2) (n + 8) k (packet_at h k) × Fit (packet_at h k)) o.0
           (one (owner n i) o.0 o.1 o.2 (r.told (owner n i) o.1 o.2).told)
 
-  showing-made : (d : Display) (h : Held) (f : Follower) → get_or b 0 0 ≡ 2 → get_or b 1 0 ≡ 1 → Displayed (shown_at b 6) d → display_fits d ≡ true
+  showing_made : (d : Display) (h : Held) (f : Follower) → get_or b 0 0 ≡ 2 → get_or b 1 0 ≡ 1 → Displayed (shown_at b 6) d → display_fits d ≡ true
       → Rowed (number_from (quad_at b 2) + 2) 7 (drop 17 b) nothing h → showing (at (number_from (quad_at b 2)) d) h ≡ f → Written b f
-  showing-made d h f x y o t r k =
+  showing_made d h f x y o t r k =
       let n = number_from (quad_at b 2) in
       let w = number_written (quad_at b 2) (quad_at_lem b 2 a) in
       let l = number_within (quad_at b 2) (quad_at_lem b 2 a) in
@@ -343,42 +343,42 @@ module _ (b : List ℕ) (a : AllBytes b) (e : length b ≡ 241) where
       let p = display_pictured n d l t o.typed in
       let c : Fits (Shown.Picture (at n d)) h =
       record {
-        formed = (l, (r.size, λ i m. (read-places n h r i m).0));
+        formed = (l, (r.size, λ i m. (read_places n h r i m).0));
         shown = picture_whole n d p;
-        places = λ i m. fit_tested i (packet_at h i) (read-places n h r i m).1;
+        places = λ i m. fit_tested i (packet_at h i) (read_places n h r i m).1;
       } in
       subst (λ (j : Follower). Written b j) k (record { bytes = sym (g ∙ u); fits = fitted (showing (at n d) h) c })
 
-  held-case : (d : Display) (m : Option Held) (f : Follower) → get_or b 0 0 ≡ 2 → get_or b 1 0 ≡ 1 → Displayed (shown_at b 6) d → display_fits d ≡ true
+  held_case : (d : Display) (m : Option Held) (f : Follower) → get_or b 0 0 ≡ 2 → get_or b 1 0 ≡ 1 → Displayed (shown_at b 6) d → display_fits d ≡ true
       → held_from (number_from (quad_at b 2)) (drop 17 b) ≡ m → showing_with (at (number_from (quad_at b 2)) d) m ≡ some f → Written b f
-  held-case d none f x y o t r q = absurd (let z : ◌≡◌ {A = ℕ} 0 1 = cc in omega arith)
-  held-case d (some h) f x y o t r q =
+  held_case d none f x y o t r q = absurd (let z : ◌≡◌ {A = ℕ} 0 1 = cc in omega arith)
+  held_case d (some h) f x y o t r q =
       let k : showing (at (number_from (quad_at b 2)) d) h ≡ f = cc in
       let l : length (drop 17 b) ≡ 7 * 32 = length-drop 17 b ∙ omega (arith, e) in
-      showing-made d h f x y o t
+      showing_made d h f x y o t
       (row_read (number_from (quad_at b 2) + 2) 7 (drop 17 b) nothing h (omega arith) (omega arith) (drop_bytes 17 b a) l refl r)
       k
 
-  fits-case : (d : Display) (f : Follower) (t : Bool) → display_fits d ≡ t → get_or b 0 0 ≡ 2 → get_or b 1 0 ≡ 1 → Displayed (shown_at b 6) d
+  fits_case : (d : Display) (f : Follower) (t : Bool) → display_fits d ≡ t → get_or b 0 0 ≡ 2 → get_or b 1 0 ≡ 1 → Displayed (shown_at b 6) d
       → cond t (showing_with (at (number_from (quad_at b 2)) d) (held_from (number_from (quad_at b 2)) (drop 17 b))) none ≡ some f → Written b f
-  fits-case d f true t x y o q = held-case d (held_from (number_from (quad_at b 2)) (drop 17 b)) f x y o t refl q
-  fits-case d f false t x y o q = absurd (let z : ◌≡◌ {A = ℕ} 0 1 = cc in omega arith)
+  fits_case d f true t x y o q = held_case d (held_from (number_from (quad_at b 2)) (drop 17 b)) f x y o t refl q
+  fits_case d f false t x y o q = absurd (let z : ◌≡◌ {A = ℕ} 0 1 = cc in omega arith)
 
-  display-case : (r : ReadDisplay) (f : Follower) → display_from (shown_at b 6) ≡ r → get_or b 0 0 ≡ 2 → get_or b 1 0 ≡ 1
+  display_case : (r : ReadDisplay) (f : Follower) → display_from (shown_at b 6) ≡ r → get_or b 0 0 ≡ 2 → get_or b 1 0 ≡ 1
       → showing_of (number_from (quad_at b 2)) r (held_from (number_from (quad_at b 2)) (drop 17 b)) ≡ some f → Written b f
-  display-case ReadDisplay.Refused f r x y q = absurd (let z : ◌≡◌ {A = ℕ} 0 1 = cc in omega arith)
-  display-case (ReadDisplay.Read d) f r x y q =
-      fits-case d f (display_fits d) refl x y (display_read (shown_at b 6) d (shown_at_lem b 6 a) r) q
+  display_case ReadDisplay.Refused f r x y q = absurd (let z : ◌≡◌ {A = ℕ} 0 1 = cc in omega arith)
+  display_case (ReadDisplay.Read d) f r x y q =
+      fits_case d f (display_fits d) refl x y (display_read (shown_at b 6) d (shown_at_lem b 6 a) r) q
 
-  kind-case : (k : ℕ) (f : Follower) → get_or b 1 0 ≡ k → get_or b 0 0 ≡ 2 → get_or (follower_cases b) k none ≡ some f → Written b f
-  kind-case zero f y x q = lost_tested b f (zeros (drop 6 b)) refl a e x y q
-  kind-case (suc zero) f y x q = display-case (display_from (shown_at b 6)) f refl x y q
-  kind-case (suc (suc k)) f y x q = absurd (let z : ◌≡◌ {A = ℕ} 0 1 = cc in omega arith)
+  kind_case : (k : ℕ) (f : Follower) → get_or b 1 0 ≡ k → get_or b 0 0 ≡ 2 → get_or (follower_cases b) k none ≡ some f → Written b f
+  kind_case zero f y x q = lost_tested b f (zeros (drop 6 b)) refl a e x y q
+  kind_case (suc zero) f y x q = display_case (display_from (shown_at b 6)) f refl x y q
+  kind_case (suc (suc k)) f y x q = absurd (let z : ◌≡◌ {A = ℕ} 0 1 = cc in omega arith)
 
 written_tested : (b : List ℕ) (f : Follower) (s t : Bool) → eqb (length b) 241 ≡ s → eqb (get_or b 0 0) 2 ≡ t → AllBytes b
     → cond (s && t) (get_or (follower_cases b) (get_or b 1 0) none) none ≡ some f → Written b f
 written_tested b f true true p r a q =
-    kind-case b a (eqb-true (length b) 241 p) (get_or b 1 0) f refl (eqb-true (get_or b 0 0) 2 r) q
+    kind_case b a (eqb-true (length b) 241 p) (get_or b 1 0) f refl (eqb-true (get_or b 0 0) 2 r) q
 written_tested b f true false p r a q = absurd (let z : ◌≡◌ {A = ℕ} 0 1 = cc in omega arith)
 written_tested b f false t p r a q = absurd (let z : ◌≡◌ {A = ℕ} 0 1 = cc in omega arith)
 

@@ -35,44 +35,44 @@ and_true true = refl
 and_true false = refl
 
 module _ (s : List ℕ) (i : ℕ) (z : Bool) (q : zeros s ≡ (z && zeros (drop i s))) where
-  pub zeros-next : i < length s → zeros s ≡ ((z && eqb (get_or s i 0) 0) && zeros (drop (i + 1) s))
+  pub zeros_next : i < length s → zeros s ≡ ((z && eqb (get_or s i 0) 0) && zeros (drop (i + 1) s))
   unfolding zeros
-  zeros-next l = q ∙ rw (drop-cons s i 0 l, add-one i) (and_assoc z (eqb (get_or s i 0) 0) (zeros (drop (suc i) s)))
+  zeros_next l = q ∙ rw (drop-cons s i 0 l, add-one i) (and_assoc z (eqb (get_or s i 0) 0) (zeros (drop (suc i) s)))
 
-  pub zeros-end : length s ≤ i → zeros s ≡ z
+  pub zeros_end : length s ≤ i → zeros s ≡ z
   unfolding zeros
-  zeros-end l =
+  zeros_end l =
       let r : zeros (drop i s) ≡ true = rw (drop_of_length-le s l) in
       q ∙ (ap (λ (b : Bool). z && b) r ∙ and_true z)
 
 -- showing, by what is read of the display and whether the slots are slots
 
 module _ (s : List ℕ) where
-  abbrev pictureBy : ReadDisplay → ReadShown
-  pictureBy r = shown_read (showing_of (number_from (quad_at s 2)) r (held_from (number_from (quad_at s 2)) (drop 17 s)))
+  abbrev picture_by : ReadDisplay → ReadShown
+  picture_by r = shown_read (showing_of (number_from (quad_at s 2)) r (held_from (number_from (quad_at s 2)) (drop 17 s)))
 
-  pub picture-refused : display_from (shown_at s 6) ≡ ReadDisplay.Refused → ReadShown.Refused ≡ shown_read (showing_in s)
-  picture-refused e = sym (ap pictureBy e)
+  pub picture_refused : display_from (shown_at s 6) ≡ ReadDisplay.Refused → ReadShown.Refused ≡ shown_read (showing_in s)
+  picture_refused e = sym (ap picture_by e)
 
-  pub picture-unfit : (d : Display) → display_from (shown_at s 6) ≡ ReadDisplay.Read d → display_fits d ≡ false → ReadShown.Refused ≡ shown_read (showing_in s)
-  picture-unfit d e f =
-      let q : pictureBy (ReadDisplay.Read d) ≡ ReadShown.Refused = rw f in
-      sym (ap pictureBy e ∙ q)
+  pub picture_unfit : (d : Display) → display_from (shown_at s 6) ≡ ReadDisplay.Read d → display_fits d ≡ false → ReadShown.Refused ≡ shown_read (showing_in s)
+  picture_unfit d e f =
+      let q : picture_by (ReadDisplay.Read d) ≡ ReadShown.Refused = rw f in
+      sym (ap picture_by e ∙ q)
 
-  picture-with : (n : ℕ) (d : Display) (o : Option Held) → cond (is_held o) (ReadShown.Picture (at n d)) ReadShown.Refused ≡ shown_read (showing_with (at n d) o)
-  picture-with n d none = refl
-  picture-with n d (some h) = refl
+  picture_with : (n : ℕ) (d : Display) (o : Option Held) → cond (is_held o) (ReadShown.Picture (at n d)) ReadShown.Refused ≡ shown_read (showing_with (at n d) o)
+  picture_with n d none = refl
+  picture_with n d (some h) = refl
 
-  pub picture-given : (n : ℕ) (d : Display) (t : Bool) → display_from (shown_at s 6) ≡ ReadDisplay.Read d → display_fits d ≡ true
+  pub picture_given : (n : ℕ) (d : Display) (t : Bool) → display_from (shown_at s 6) ≡ ReadDisplay.Read d → display_fits d ≡ true
       → n ≡ number_from (quad_at s 2) → is_held (held_from n (drop 17 s)) ≡ t
       → cond t (ReadShown.Picture (at n d)) ReadShown.Refused ≡ shown_read (showing_in s)
-  picture-given n d t e f m q =
+  picture_given n d t e f m q =
       let x : cond t (ReadShown.Picture (at n d)) ReadShown.Refused ≡ shown_read (showing_with (at n d) (held_from n (drop 17 s))) =
-      ap (λ (b : Bool). cond b (ReadShown.Picture (at n d)) ReadShown.Refused) (sym q) ∙ picture-with n d (held_from n (drop 17 s)) in
+      ap (λ (b : Bool). cond b (ReadShown.Picture (at n d)) ReadShown.Refused) (sym q) ∙ picture_with n d (held_from n (drop 17 s)) in
       let y : shown_read (showing_with (at n d) (held_from n (drop 17 s)))
       ≡ shown_read (showing_with (at (number_from (quad_at s 2)) d) (held_from (number_from (quad_at s 2)) (drop 17 s))) =
       ap (λ (k : ℕ). shown_read (showing_with (at k d) (held_from k (drop 17 s)))) m in
-      let z : pictureBy (ReadDisplay.Read d)
+      let z : picture_by (ReadDisplay.Read d)
       ≡ shown_read (showing_with (at (number_from (quad_at s 2)) d) (held_from (number_from (quad_at s 2)) (drop 17 s))) =
       rw f in
-      x ∙ (y ∙ sym (ap pictureBy e ∙ z))
+      x ∙ (y ∙ sym (ap picture_by e ∙ z))

@@ -192,10 +192,10 @@ slots_start m k s h =
     rw (a, b)
 
 module _ (m k : ℕ) (s : List ℕ) (h : Held) where
-  next-slot : (i : ℕ) → i < k → slots_from (m + i) (k - i) (drop (i * 32) s) h
+  next_slot : (i : ℕ) → i < k → slots_from (m + i) (k - i) (drop (i * 32) s) h
       ≡ slot_then (slot_from (m + i) (take 32 (drop (i * 32) s)))
       (λ p. slots_from (m + (i + 1)) (k - (i + 1)) (drop ((i + 1) * 32) s) (put h ((m + i) % 8) p))
-  next-slot i l =
+  next_slot i l =
       let a : k - i ≡ suc (k - (i + 1)) = omega (arith, l) in
       let b : (i + 1) * 32 ≡ i * 32 + 32 = omega arith in
       let c : m + (i + 1) ≡ suc (m + i) = omega arith in
@@ -205,13 +205,13 @@ module _ (m k : ℕ) (s : List ℕ) (h : Held) where
       → slots_from (m + i) (k - i) (drop (i * 32) s) h
       ≡ slots_from (m + (i + 1)) (k - (i + 1)) (drop ((i + 1) * 32) s) (put h ((m + i) % 8) p)
   slot_taken i p l e =
-      next-slot i l
+      next_slot i l
       ∙ ap (λ (x : ReadSlot). slot_then x (λ q. slots_from (m + (i + 1)) (k - (i + 1)) (drop ((i + 1) * 32) s) (put h ((m + i) % 8) q))) e
 
-  pub slot-refused : (i : ℕ) → i < k → slot_from (m + i) (take 32 (drop (i * 32) s)) ≡ ReadSlot.Refused
+  pub slot_refused : (i : ℕ) → i < k → slot_from (m + i) (take 32 (drop (i * 32) s)) ≡ ReadSlot.Refused
       → slots_from (m + i) (k - i) (drop (i * 32) s) h ≡ none
-  slot-refused i l e =
-      next-slot i l
+  slot_refused i l e =
+      next_slot i l
       ∙ ap (λ (x : ReadSlot). slot_then x (λ q. slots_from (m + (i + 1)) (k - (i + 1)) (drop ((i + 1) * 32) s) (put h ((m + i) % 8) q))) e
 
   pub slots_end : (i : ℕ) → k ≤ i → slots_from (m + i) (k - i) (drop (i * 32) s) h ≡ some h

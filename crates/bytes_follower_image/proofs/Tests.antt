@@ -57,14 +57,14 @@ module _ (g : Group) where
   abbrev rest : ℕ
   rest = four_bytes g.v1 g.c0 g.c1 g.flags
 
-  rest-zero : eqb rest 0 ≡ rest_zero g
-  rest-zero =
+  rest_zero : eqb rest 0 ≡ rest_zero g
+  rest_zero =
       both (eqb rest 0) (rest_zero g)
       (λ e. eq-eqb (g.v1 + g.c0 + g.c1 + g.flags) 0 (omega (arith, eqb-true rest 0 e)))
       (λ e. eq-eqb rest 0 (omega (arith, eqb-true (g.v1 + g.c0 + g.c1 + g.flags) 0 e)))
 
-  all-zero : pair_fits g.v0 0 rest ≡ all_zero g
-  all-zero =
+  all_zero : pair_fits g.v0 0 rest ≡ all_zero g
+  all_zero =
       both (pair_fits g.v0 0 rest) (all_zero g)
       (λ e. eq-eqb (g.v0 + g.v1 + g.c0 + g.c1 + g.flags) 0
       (omega (arith, leb-true g.v0 0 (and_left (leb g.v0 0) (eqb rest 0) e), eqb-true rest 0 (and_right (leb g.v0 0) (eqb rest 0) e))))
@@ -97,17 +97,17 @@ provider port c f false false = refl
 kind_tested : (n : ℕ) (g : Group)
     → get_or (kind_cases g.number g.v0 (rest g) g.flags) n false ≡ is_notice (get_or (notice_cases g) n ReadNotice.Refused)
 kind_tested zero g = refl
-kind_tested (suc zero) g = rw (rest-zero g) (after (rest_zero g) (leb g.v0 6) (reason_read g.number (disconnect_from g.v0)) (reason g.number g.v0))
+kind_tested (suc zero) g = rw (rest_zero g) (after (rest_zero g) (leb g.v0 6) (reason_read g.number (disconnect_from g.v0)) (reason g.number g.v0))
 kind_tested (suc (suc zero)) g =
     consumer g.number (capability_from g)
     (record { unconstrained_power = eqb (g.flags % 2) 1; psu_type = psu_type_from (g.flags / 2) })
     (leb (g.flags / 2) 6)
-kind_tested (suc (suc (suc zero))) g = all-zero g ∙ given (all_zero g) (Event.ProviderDisconnected g.number)
+kind_tested (suc (suc (suc zero))) g = all_zero g ∙ given (all_zero g) (Event.ProviderDisconnected g.number)
 kind_tested (suc (suc (suc (suc zero)))) g =
     provider g.number (capability_from g) (record { psu_type = psu_type_from (g.flags / 2) }) (eqb (g.flags % 2) 1)
     (leb (g.flags / 2) 6)
 kind_tested (suc (suc (suc (suc (suc zero))))) g =
-    rw (rest-zero g)
+    rw (rest_zero g)
     (given (leb g.number 1 && (leb g.v0 16 && rest_zero g))
     (Event.Unconstrained (record { unconstrained = eqb g.number 1; available = g.v0 })))
 kind_tested (suc (suc (suc (suc (suc (suc n)))))) g = refl
@@ -140,13 +140,13 @@ module _ (s : List ℕ) (at count k r : ℕ)
   first : get_or s (at + 0) 0 ≡ get_or s at 0
   first = ap (λ (i : ℕ). get_or s i 0) (add-zero at)
 
-  pub place-meant : ltb k count ≡ true
+  pub place_meant : ltb k count ≡ true
       → bytes_fit (get_or s at 0) (get_or s (at + 1) 0) (get_or s (at + 2) 0) r (get_or s (at + 6) 0) ≡ is_notice (place_from count k (tagged_at s at))
-  place-meant l = rw (e, l, ← first) (notice_tested (tagged_at s at))
+  place_meant l = rw (e, l, ← first) (notice_tested (tagged_at s at))
 
-  pub place-past : ltb k count ≡ false
+  pub place_past : ltb k count ≡ false
       → eqb (get_or s at 0 + get_or s (at + 1) 0 + get_or s (at + 2) 0 + r) 0 ≡ is_notice (place_from count k (tagged_at s at))
-  place-past l = rw (e, l, ← first) (zeros_tested (tagged_at s at) ∙ given (is_zero (tagged_at s at)) filler)
+  place_past l = rw (e, l, ← first) (zeros_tested (tagged_at s at) ∙ given (is_zero (tagged_at s at)) filler)
 
 -- tests one after the other: one that holds leaves the rest, one that fails decides
 

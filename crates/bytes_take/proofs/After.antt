@@ -67,9 +67,9 @@ module _ (b : List ℕ) (s : Picture) (h : Held) (i : ImageOf b s h) (m : ℕ) (
   g : Held
   g = after s.number h (fits (showing s h) i.fits).formed.1 m p.number l u
 
-  row-few : (j : ℕ) → p.number ≡ s.number + j → j ≤ 7 → held_bytes p.number g ≡ drop (j * 32) (held_bytes s.number h) ++ replicate (j * 32) 0
+  row_few : (j : ℕ) → p.number ≡ s.number + j → j ≤ 7 → held_bytes p.number g ≡ drop (j * 32) (held_bytes s.number h) ++ replicate (j * 32) 0
   unfolding g
-  row-few j e c =
+  row_few j e c =
       let x : p.number + 2 ≡ s.number + 2 + j = omega (arith, e) in
       let y : 7 ≡ 7 - j + j = omega (arith, c) in
       let same = row_same (s.number + 2 + j) (7 - j) g h (λ t a d.
@@ -82,15 +82,15 @@ module _ (b : List ℕ) (s : Picture) (h : Held) (i : ImageOf b s h) (m : ℕ) (
       ∙ ((λ k. written slot_bytes (same k) ++ none_at k)
       ∙ ap (λ (r : List ℕ). r ++ replicate (j * 32) 0) (sym (row_drop (s.number + 2) 7 j h c)))))
 
-  row-many : s.number + 7 ≤ p.number → held_bytes p.number g ≡ replicate 224 0
+  row_many : s.number + 7 ≤ p.number → held_bytes p.number g ≡ replicate 224 0
   unfolding g
-  row-many c =
+  row_many c =
       row_none (p.number + 2) 7 g (λ t a d.
       held_none s.number h (fits (showing s h) i.fits).formed.1 m p.number l u t (omega (arith, c, a)) (omega (arith, a)) (omega (arith, d)))
 
   -- the slots of the image, so many dropped
-  slots-dropped : (j : ℕ) → p.number ≡ s.number + j → drop (17 + j * 32) b ++ replicate (min 224 (j * 32)) 0 ≡ held_bytes p.number g
-  slots-dropped j e = by (leb j 7) refl
+  slots_dropped : (j : ℕ) → p.number ≡ s.number + j → drop (17 + j * 32) b ++ replicate (min 224 (j * 32)) 0 ≡ held_bytes p.number g
+  slots_dropped j e = by (leb j 7) refl
     where
       head : drop 17 b ≡ held_bytes s.number h
       head = ap (drop 17) i.bytes
@@ -102,22 +102,22 @@ module _ (b : List ℕ) (s : Picture) (h : Held) (i : ImageOf b s h) (m : ℕ) (
       by true t =
           let c = leb-true j 7 t in
           let x : min 224 (j * 32) ≡ j * 32 = omega (arith, c) in
-          (λ k. tail k ++ replicate (x k) 0) ∙ sym (row-few j e c)
+          (λ k. tail k ++ replicate (x k) 0) ∙ sym (row_few j e c)
       by false t =
           let c = leb-false j 7 t in
           let x : min 224 (j * 32) ≡ 224 = omega (arith, c) in
           let y : drop (j * 32) (held_bytes s.number h) ≡ [] = drop_of_length-le (held_bytes s.number h) {i = j * 32} (omega (arith, c, row_length (s.number + 2) 7 h)) in
           let z : drop (17 + j * 32) b ≡ [] = tail ∙ y in
-          (λ k. z k ++ replicate (x k) 0) ∙ sym (row-many (omega (arith, c, e)))
+          (λ k. z k ++ replicate (x k) 0) ∙ sym (row_many (omega (arith, c, e)))
 
   -- number and display over them
-  pub shown-after : (j : ℕ) (c o : List ℕ) → p.number ≡ s.number + j → c ≡ take 17 b ++ (drop (17 + j * 32) b ++ replicate (min 224 (j * 32)) 0)
+  pub shown_after : (j : ℕ) (c o : List ℕ) → p.number ≡ s.number + j → c ≡ take 17 b ++ (drop (17 + j * 32) b ++ replicate (min 224 (j * 32)) 0)
       → o ≡ sets c 0 (shown_head p.number p.display) → length b ≡ 241
       → o ≡ showing_bytes p (after s.number h (fits (showing s h) i.fits).formed.1 m p.number l u)
   unfolding g
-  shown-after j c o e q r z =
+  shown_after j c o e q r z =
       let t : length (take 17 b) ≡ 17 = length-take-le 17 b (omega (arith, z)) in
-      let x : c ≡ take 17 b ++ held_bytes p.number g = q ∙ ap (λ (k : List ℕ). take 17 b ++ k) (slots-dropped j e) in
+      let x : c ≡ take 17 b ++ held_bytes p.number g = q ∙ ap (λ (k : List ℕ). take 17 b ++ k) (slots_dropped j e) in
       let head = shown_head p.number p.display in
       let row = held_bytes p.number g in
       let v : 0 + length head ≤ length (take 17 b ++ row) = omega (arith, length-append (take 17 b) row, t) in

@@ -22,7 +22,7 @@ use Rattle.desk_follower.specs.declared.Follower.{Follower}
 use Rattle.desk_follower.specs.declared.Shown.{Shown}
 use Rattle.desk_follower.specs.declared.held.Held.{Held}
 use Rattle.desk_follower.proofs.Kept.{mod8, none_at, nothing_within}
-use Rattle.desk_follower.proofs.Laws.{event-new, event-beyond, picture-new, greatest_base, greatest_le}
+use Rattle.desk_follower.proofs.Laws.{event_new, event_beyond, picture_new, greatest_base, greatest_le}
 use Rattle.bytes_take.specs.Turned.{turned, dropped_to, outcome}
 use Rattle.bytes_take.specs.declared.turn.OptionPicture.{OptionPicture}
 
@@ -66,4 +66,4 @@ beyond s h e w l =
     let x = greatest_base e.number 8 h in
     let y = greatest_le e.number e.number 8 h (omega arith) held-le in
     let g : greatest e.number 8 h ≡ e.number = omega (arith, x, y) in
-    event-beyond s h e l ∙ ap lost g
+    event_beyond s h e l ∙ ap lost g

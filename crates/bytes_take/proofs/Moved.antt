@@ -31,24 +31,24 @@ module _ (b : List ℕ) (by : ℕ) (e : length b ≡ 241) (l : by ≤ 224) where
   moved_front : (j : ℕ) → j < 17 → get_or (moved b by) j 0 ≡ get_or b j 0
   moved_front j k = get_or-append (take 17 b) (drop (17 + by) b ++ drop (241 - by) b) 0 j (omega (arith, k, front)) ∙ get_or-take 17 b j 0 k
 
-  past-front : (j : ℕ) → 17 ≤ j → get_or (moved b by) j 0 ≡ get_or (drop (17 + by) b ++ drop (241 - by) b) (j - 17) 0
-  past-front j u =
+  past_front : (j : ℕ) → 17 ≤ j → get_or (moved b by) j 0 ≡ get_or (drop (17 + by) b ++ drop (241 - by) b) (j - 17) 0
+  past_front j u =
       let q : j ≡ length (take 17 b) + (j - 17) = omega (arith, front, u) in
       ap (λ (i : ℕ). get_or (moved b by) i 0) q ∙ get_or-append-add (take 17 b) (drop (17 + by) b ++ drop (241 - by) b) (j - 17) 0
 
   moved_at : (j : ℕ) → 17 ≤ j → j < 241 - by → get_or (moved b by) j 0 ≡ get_or b (j + by) 0
   moved_at j u v =
       let x : 17 + by + (j - 17) ≡ j + by = omega (arith, u) in
-      past-front j u
+      past_front j u
       ∙ (get_or-append (drop (17 + by) b) (drop (241 - by) b) 0 (j - 17) (omega (arith, u, v, middle, l))
       ∙ (get_or-drop (17 + by) b (j - 17) 0 ∙ ap (λ (i : ℕ). get_or b i 0) x))
 
-  moved-rest : (j : ℕ) → 241 - by ≤ j → j < 241 → get_or (moved b by) j 0 ≡ get_or b j 0
-  moved-rest j u v =
+  moved_rest : (j : ℕ) → 241 - by ≤ j → j < 241 → get_or (moved b by) j 0 ≡ get_or b j 0
+  moved_rest j u v =
       let r : ℕ = j - 17 - (224 - by) in
       let x : j - 17 ≡ length (drop (17 + by) b) + r = omega (arith, u, middle, l) in
       let y : 241 - by + r ≡ j = omega (arith, u, l) in
-      past-front j (omega (arith, u, l))
+      past_front j (omega (arith, u, l))
       ∙ (ap (λ (i : ℕ). get_or (drop (17 + by) b ++ drop (241 - by) b) i 0) x
       ∙ (get_or-append-add (drop (17 + by) b) (drop (241 - by) b) r 0 ∙ (get_or-drop (241 - by) b r 0 ∙ ap (λ (i : ℕ). get_or b i 0) y)))
 
@@ -56,17 +56,17 @@ module _ (b : List ℕ) (by : ℕ) (e : length b ≡ 241) (l : by ≤ 224) where
   pub Moving : ℕ → List ℕ → Type 0
   Moving i c = (j : ℕ) → get_or c j 0 ≡ cond (ltb j i) (get_or (moved b by) j 0) (get_or b j 0)
 
-  pub moving-start : Moving 17 b
+  pub moving_start : Moving 17 b
   unfolding Moving
-  moving-start j = go (ltb j 17) refl
+  moving_start j = go (ltb j 17) refl
     where
       go : (t : Bool) → ltb j 17 ≡ t → get_or b j 0 ≡ cond t (get_or (moved b by) j 0) (get_or b j 0)
       go true t = sym (moved_front j (ltb-true j 17 t))
       go false t = refl
 
-  pub moving-next : (i : ℕ) (c : List ℕ) → 17 ≤ i → i < 241 - by → length c ≡ 241 → Moving i c → Moving (i + 1) (set c i (get_or c (i + by) 0))
+  pub moving_next : (i : ℕ) (c : List ℕ) → 17 ≤ i → i < 241 - by → length c ≡ 241 → Moving i c → Moving (i + 1) (set c i (get_or c (i + by) 0))
   unfolding Moving
-  moving-next i c u v z f j = go (eqb j i) refl
+  moving_next i c u v z f j = go (eqb j i) refl
     where
       here : get_or c (i + by) 0 ≡ get_or (moved b by) i 0
       here =
@@ -87,18 +87,18 @@ module _ (b : List ℕ) (by : ℕ) (e : length b ≡ 241) (l : by ≤ 224) where
           same true w q = w ∙ sym (lt-ltb j (i + 1) (omega (arith, ltb-true j i w)))
           same false w q = w ∙ sym (le-ltb j (i + 1) (omega (arith, ltb-false j i w, q)))
 
-  pub moving-end : (i : ℕ) (c : List ℕ) → i ≡ 241 - by → length c ≡ 241 → Moving i c → c ≡ moved b by
+  pub moving_end : (i : ℕ) (c : List ℕ) → i ≡ 241 - by → length c ≡ 241 → Moving i c → c ≡ moved b by
   unfolding Moving
-  moving-end i c u z f = ext_get_or 0 c (moved b by) (z ∙ sym moved_length) (λ j k. f j ∙ go j (omega (arith, k, z)) (ltb j i) refl)
+  moving_end i c u z f = ext_get_or 0 c (moved b by) (z ∙ sym moved_length) (λ j k. f j ∙ go j (omega (arith, k, z)) (ltb j i) refl)
     where
       go : (j : ℕ) → j < 241 → (t : Bool) → ltb j i ≡ t → cond (ltb j i) (get_or (moved b by) j 0) (get_or b j 0) ≡ get_or (moved b by) j 0
       go j k true t = ap (λ (w : Bool). cond w (get_or (moved b by) j 0) (get_or b j 0)) t
       go j k false t =
-          ap (λ (w : Bool). cond w (get_or (moved b by) j 0) (get_or b j 0)) t ∙ sym (moved-rest j (omega (arith, u, ltb-false j i t)) k)
+          ap (λ (w : Bool). cond w (get_or (moved b by) j 0) (get_or b j 0)) t ∙ sym (moved_rest j (omega (arith, u, ltb-false j i t)) k)
 
   -- then the last bytes are cleared
-  pub moved-cleared : sets (moved b by) (241 - by) (replicate (241 - (241 - by)) 0) ≡ take 17 b ++ (drop (17 + by) b ++ replicate by 0)
-  moved-cleared =
+  pub moved_cleared : sets (moved b by) (241 - by) (replicate (241 - (241 - by)) 0) ≡ take 17 b ++ (drop (17 + by) b ++ replicate by 0)
+  moved_cleared =
       let n : 241 - (241 - by) ≡ by = omega (arith, l) in
       let a = take 17 b ++ drop (17 + by) b in
       let w : length a ≡ 241 - by = length-append (take 17 b) (drop (17 + by) b) ∙ omega (arith, front, middle, l) in

@@ -23,7 +23,7 @@ use Rattle.desk_follower.specs.Follower.{showing, at, in_turn, settled, taken_at
 use Rattle.desk_follower.specs.declared.Shown.{Shown}
 use Rattle.desk_follower.specs.declared.held.Held.{Held}
 use Rattle.desk_follower.proofs.Kept.{mod8, none_at}
-use Rattle.desk_follower.proofs.Laws.{event-new, event-held}
+use Rattle.desk_follower.proofs.Laws.{event_new, event_held}
 use Rattle.bytes_follower_image.specs.Slot.{slot_bytes}
 use Rattle.bytes_follower_image.specs.Held.{slots, held_bytes}
 use Rattle.bytes_follower_image.specs.Fits.{image_fits}
@@ -104,27 +104,27 @@ module _ (b : List ℕ) (s : Picture) (h : Held) (i : ImageOf b s h) where
   formed : Fits (Shown.Picture s) h
   formed = fits (showing s h) i.fits
 
-  slot-byte : (k : ℕ) → k < 7 → Byte (s.number + 2 + k) (held_for h (s.number + 2 + k))
-  slot-byte k l =
+  slot_byte : (k : ℕ) → k < 7 → Byte (s.number + 2 + k) (held_for h (s.number + 2 + k))
+  slot_byte k l =
       told_byte (s.number + 2 + k) (held_for h (s.number + 2 + k))
       (held_told s.number h formed.formed.1 formed.places (s.number + 2 + k) (omega arith) (omega (arith, l)))
 
-  pub slot-empty : (k : ℕ) → k < 7 → get_or b (17 + k * 32) 0 ≡ 0 → held_for h (s.number + 2 + k) ≡ held.none
-  slot-empty k l e = by (slot-byte k l)
+  pub slot_empty : (k : ℕ) → k < 7 → get_or b (17 + k * 32) 0 ≡ 0 → held_for h (s.number + 2 + k) ≡ held.none
+  slot_empty k l e = by (slot_byte k l)
     where
       by : Byte (s.number + 2 + k) (held_for h (s.number + 2 + k)) → held_for h (s.number + 2 + k) ≡ held.none
       by (empty z q) = z
       by (full z u q) = absurd (omega (arith, q, e, first_byte b s h k i l))
 
-  pub slot-full : (k : ℕ) → k < 7 → (get_or b (17 + k * 32) 0 ≡ 0 → ⊥) → (held_for h (s.number + 2 + k)).number ≡ s.number + 2 + k
-  slot-full k l e = by (slot-byte k l)
+  pub slot_full : (k : ℕ) → k < 7 → (get_or b (17 + k * 32) 0 ≡ 0 → ⊥) → (held_for h (s.number + 2 + k)).number ≡ s.number + 2 + k
+  slot_full k l e = by (slot_byte k l)
     where
       by : Byte (s.number + 2 + k) (held_for h (s.number + 2 + k)) → (held_for h (s.number + 2 + k)).number ≡ s.number + 2 + k
       by (empty z q) = absurd (e (first_byte b s h k i l ∙ q))
       by (full z u q) = z
 
-  pub slot-low : (k : ℕ) → k < 7 → (get_or b (17 + k * 32) 0 ≡ 0 → ⊥) → s.number + 2 + k ≤ 4294967295
-  slot-low k l e = by (slot-byte k l)
+  pub slot_low : (k : ℕ) → k < 7 → (get_or b (17 + k * 32) 0 ≡ 0 → ⊥) → s.number + 2 + k ≤ 4294967295
+  slot_low k l e = by (slot_byte k l)
     where
       by : Byte (s.number + 2 + k) (held_for h (s.number + 2 + k)) → s.number + 2 + k ≤ 4294967295
       by (empty z q) = absurd (e (first_byte b s h k i l ∙ q))
@@ -132,8 +132,8 @@ module _ (b : List ℕ) (s : Picture) (h : Held) (i : ImageOf b s h) where
 
   -- nothing is held where every first byte is 0
 
-  bytes-zero : none_in b ≡ true → (k : ℕ) → k < 7 → get_or b (17 + k * 32) 0 ≡ 0
-  bytes-zero e k l = at k l
+  bytes_zero : none_in b ≡ true → (k : ℕ) → k < 7 → get_or b (17 + k * 32) 0 ≡ 0
+  bytes_zero e k l = at k l
     where
       sum : get_or b 17 0 + get_or b 49 0 + get_or b 81 0 + get_or b 113 0 + get_or b 145 0 + get_or b 177 0 + get_or b 209 0 ≡ 0
       sum = eqb-true _ _ e
@@ -148,8 +148,8 @@ module _ (b : List ℕ) (s : Picture) (h : Held) (i : ImageOf b s h) where
       at (suc (suc (suc (suc (suc (suc zero)))))) l = omega (arith, sum)
       at (suc (suc (suc (suc (suc (suc (suc k))))))) l = absurd (omega (arith, l))
 
-  pub all-empty : none_in b ≡ true → h ≡ nothing
-  all-empty e =
+  pub all_empty : none_in b ≡ true → h ≡ nothing
+  all_empty e =
       let x : h.packets ≡ nothing.packets =
       ext_get_or held.none h.packets nothing.packets formed.formed.1.0 (λ j l. at j (omega (arith, l, formed.formed.1.0)) (eqb j ((s.number + 1) % 8)) refl) in
       λ j. record { packets = x j }
@@ -160,20 +160,20 @@ module _ (b : List ℕ) (s : Picture) (h : Held) (i : ImageOf b s h) where
           let o = owned s.number j l (eqb-false j ((s.number + 1) % 8) t) in
           let k : ℕ = owner s.number j - (s.number + 2) in
           let m : s.number + 2 + k ≡ owner s.number j = omega (arith, o.1) in
-          let z = slot-empty k (omega (arith, o.2, o.1)) (bytes-zero e k (omega (arith, o.2, o.1))) in
+          let z = slot_empty k (omega (arith, o.2, o.1)) (bytes_zero e k (omega (arith, o.2, o.1))) in
           (ap (packet_at h) (sym o.0) ∙ (ap (held_for h) (sym m) ∙ z)) ∙ sym (none_at 8 j)
 
   -- and something where one is not
 
   none_bytes : none_held 8 h ≡ true → (k : ℕ) → k < 7 → get_or b (17 + k * 32) 0 ≡ 0
-  none_bytes e k l = by (slot-byte k l)
+  none_bytes e k l = by (slot_byte k l)
     where
       by : Byte (s.number + 2 + k) (held_for h (s.number + 2 + k)) → get_or b (17 + k * 32) 0 ≡ 0
       by (empty z q) = first_byte b s h k i l ∙ q
       by (full z u q) = absurd (omega (arith, z, none_numbers 8 h e ((s.number + 2 + k) % 8) (mod8 (s.number + 2 + k))))
 
-  sum-zero : none_held 8 h ≡ true → none_in b ≡ true
-  sum-zero e =
+  sum_zero : none_held 8 h ≡ true → none_in b ≡ true
+  sum_zero e =
       let a = none_bytes e 0 (omega arith) in
       let c = none_bytes e 1 (omega arith) in
       let d = none_bytes e 2 (omega arith) in
@@ -184,16 +184,16 @@ module _ (b : List ℕ) (s : Picture) (h : Held) (i : ImageOf b s h) where
       let z : get_or b 17 0 + get_or b 49 0 + get_or b 81 0 + get_or b 113 0 + get_or b 145 0 + get_or b 177 0 + get_or b 209 0 ≡ 0 = omega (arith, a, c, d, f, g, j, k) in
       eq-eqb _ _ z
 
-  pub none-same : none_in b ≡ none_held 8 h
-  none-same = by (none_in b) refl (none_held 8 h) refl
+  pub none_same : none_in b ≡ none_held 8 h
+  none_same = by (none_in b) refl (none_held 8 h) refl
     where
       by : (x : Bool) → none_in b ≡ x → (y : Bool) → none_held 8 h ≡ y → x ≡ y
       by true p true q = refl
       by false p false q = refl
       by true p false q =
-          let z : none_held 8 nothing ≡ false = ap (none_held 8) (sym (all-empty p)) ∙ q in
+          let z : none_held 8 nothing ≡ false = ap (none_held 8) (sym (all_empty p)) ∙ q in
           sym nothing_none ∙ z
-      by false p true q = sym p ∙ sum-zero q
+      by false p true q = sym p ∙ sum_zero q
 
 -- the packet of event m + k stored in slot k of those from event m on
 
@@ -248,12 +248,12 @@ hold_new s h e k f l q z =
     let zero_number : (held_for h e.number).number ≡ 0 = ap (λ (p : EventPacket). p.number) z in
     let x : held_for (placed h e) (s.number + 1) ≡ held.none =
     get_or-set_other h.packets (e.number % 8) ((s.number + 1) % 8) e held.none (λ r. omega (arith, r, q, l)) ∙ held_next_lem s.number h w in
-    event-new s h e (omega (arith, q)) (omega (arith, q, l)) (λ y. omega (arith, y, zero_number, q))
+    event_new s h e (omega (arith, q)) (omega (arith, q, l)) (λ y. omega (arith, y, zero_number, q))
     ∙ turn_stays s (placed h e) (λ y. let a : (held_for (placed h e) (s.number + 1)).number ≡ 0 = ap (λ (p : EventPacket). p.number) x in omega (arith, a, y))
 
 pub hold_again : (s : Picture) (h : Held) (e : EventPacket) (k : ℕ) → k < 7 → e.number ≡ s.number + 2 + k → (held_for h e.number).number ≡ e.number
     → taken_at (Shown.Picture s) h (Packet.Event e) ≡ showing s h
-hold_again s h e k l q z = event-held s h e (omega (arith, q)) (omega (arith, q, l)) z
+hold_again s h e k l q z = event_held s h e (omega (arith, q)) (omega (arith, q, l)) z
 
 -- whichever it is
 pub slot_taken : (b : List ℕ) (s : Picture) (h : Held) (e : EventPacket) (k : ℕ) → ImageOf b s h → k < 7 → e.number ≡ s.number + 2 + k
@@ -263,8 +263,8 @@ slot_taken b s h e k i l q = by (eqb (get_or b (17 + k * 32) 0) 0) refl
     by : (t : Bool) → eqb (get_or b (17 + k * 32) 0) 0 ≡ t
         → cond t (sets b (17 + k * 32) (slot_bytes e)) b ≡ follower_bytes (taken_at (Shown.Picture s) h (Packet.Event e))
     by true t =
-        let z = ap (held_for h) q ∙ slot-empty b s h i k l (eqb-true _ _ t) in
+        let z = ap (held_for h) q ∙ slot_empty b s h i k l (eqb-true _ _ t) in
         slot_stored b s h e k i l q ∙ sym (ap follower_bytes (hold_new s h e k i.fits l q z))
     by false t =
-        let z = ap (λ (m : ℕ). (held_for h m).number) q ∙ (slot-full b s h i k l (eqb-false _ _ t) ∙ sym q) in
+        let z = ap (λ (m : ℕ). (held_for h m).number) q ∙ (slot_full b s h i k l (eqb-false _ _ t) ∙ sym q) in
         i.bytes ∙ sym (ap follower_bytes (hold_again s h e k l q z))

@@ -23,8 +23,8 @@ use Rattle.desk_follower.specs.declared.Follower.{Follower}
 use Rattle.desk_follower.specs.declared.Shown.{Shown}
 use Rattle.desk_follower.specs.declared.held.Held.{Held}
 use Rattle.desk_follower.proofs.Kept.{mod8, seen}
-use Rattle.desk_follower.proofs.Laws.{event-new, picture-new, greatest_base, greatest_held, greatest_le, above_stays}
-use Rattle.desk_follower.proofs.Floor.{placed-floor}
+use Rattle.desk_follower.proofs.Laws.{event_new, picture_new, greatest_base, greatest_held, greatest_le, above_stays}
+use Rattle.desk_follower.proofs.Floor.{placed_floor}
 use Rattle.bytes_follower_image.proofs.Rows.{owner, owned}
 use Rattle.bytes_follower_image.proofs.OneImage.{held_next_lem}
 use Rattle.bytes_take.specs.Turned.{turned, dropped_to, outcome}
@@ -119,12 +119,12 @@ turn_outcome (suc k) f m d h l =
 -- packets at or below a number that is passed do not matter
 
 module _ (m0 : ℕ) (h : Held) (size : length h.packets ≡ 8) where
-  held-left : (m : ℕ) → m0 ≤ m → (t : Bool) → holds h (m + 1) ≡ t
+  held_left : (m : ℕ) → m0 ≤ m → (t : Bool) → holds h (m + 1) ≡ t
       → (held_for (above m0 8 h) (m + 1) ≡ held_for h (m + 1)) ⊎ ((holds (above m0 8 h) (m + 1) ≡ false) × (holds h (m + 1) ≡ false))
-  held-left m l true t =
+  held_left m l true t =
       let e : (held_for h (m + 1)).number ≡ m + 1 = eqb-true _ _ t in
       inl (above_stays m0 8 h ((m + 1) % 8) (omega (arith, l, e)))
-  held-left m l false t =
+  held_left m l false t =
       let z : (held_for (above m0 8 h) (m + 1)).number ≡ m + 1 → ⊥ = λ e.
       ⊎_elim (λ y. let a : (held_for (above m0 8 h) (m + 1)).number ≡ 0 = ap (λ (p : EventPacket). p.number) y in omega (arith, a, e))
       (λ y. eqb-false _ _ t (sym (ap (λ (p : EventPacket). p.number) y.0) ∙ e))
@@ -147,12 +147,12 @@ module _ (m0 : ℕ) (h : Held) (size : length h.packets ≡ 8) where
   unfolding turned
   turned_left zero m d l = refl
   turned_left (suc k) m d l =
-      left_at k m d (above m0 8 h) (held_for (above m0 8 h) (m + 1)) (held_for h (m + 1)) (held-left m l (holds h (m + 1)) refl)
+      left_at k m d (above m0 8 h) (held_for (above m0 8 h) (m + 1)) (held_for h (m + 1)) (held_left m l (holds h (m + 1)) refl)
       (λ d'. turned_left k (m + 1) d' (omega (arith, l)))
 
   -- nor for the floor
-  pub greatest-left : greatest m0 8 (above m0 8 h) ≡ greatest m0 8 h
-  greatest-left =
+  pub greatest_left : greatest m0 8 (above m0 8 h) ≡ greatest m0 8 h
+  greatest_left =
       let a : greatest m0 8 (above m0 8 h) ≤ greatest m0 8 h =
       greatest_le m0 (greatest m0 8 h) 8 (above m0 8 h) (greatest_base m0 8 h) (λ i l.
       ⊎_elim (λ y. let z : (packet_at (above m0 8 h) i).number ≡ 0 = ap (λ (p : EventPacket). p.number) y in omega (arith, z))
@@ -172,53 +172,53 @@ module _ (m0 : ℕ) (h : Held) (size : length h.packets ≡ 8) where
 -- turns beyond the greatest number held find nothing
 
 module _ (hi : ℕ) (h : Held) (most : (i : ℕ) → i < 8 → (packet_at h i).number ≤ hi) where
-  pub turned-fuel : (k m : ℕ) (d : Display) → hi ≤ m + k → turned (suc k) m d h ≡ turned k m d h
+  pub turned_fuel : (k m : ℕ) (d : Display) → hi ≤ m + k → turned (suc k) m d h ≡ turned k m d h
   unfolding turned
-  turned-fuel zero m d l =
+  turned_fuel zero m d l =
       let z : (held_for h (m + 1)).number ≡ m + 1 → ⊥ = λ e. omega (arith, l, e, most ((m + 1) % 8) (mod8 (m + 1))) in
       rw (ne_eqb (held_for h (m + 1)).number (m + 1) z)
-  turned-fuel (suc k) m d l =
+  turned_fuel (suc k) m d l =
       ap (λ (o : OptionPicture). cond (holds h (m + 1)) (cond (eqb (held_for h (m + 1)).answer 0) o OptionPicture.None) (OptionPicture.Some (at m d)))
-      (turned-fuel k (m + 1) (all_applied (held_for h (m + 1)).notices d) (omega (arith, l)))
+      (turned_fuel k (m + 1) (all_applied (held_for h (m + 1)).notices d) (omega (arith, l)))
 
-  pub turned-end : (k m : ℕ) (d : Display) → hi ≤ m → turned k m d h ≡ OptionPicture.Some (at m d)
+  pub turned_end : (k m : ℕ) (d : Display) → hi ≤ m → turned k m d h ≡ OptionPicture.Some (at m d)
   unfolding turned
-  turned-end zero m d l = refl
-  turned-end (suc k) m d l =
+  turned_end zero m d l = refl
+  turned_end (suc k) m d l =
       let z : (held_for h (m + 1)).number ≡ m + 1 → ⊥ = λ e. omega (arith, l, e, most ((m + 1) % 8) (mod8 (m + 1))) in
       rw (ne_eqb (held_for h (m + 1)).number (m + 1) z)
 
 -- one turn, by the packet of the next event
 
 module _ (k m : ℕ) (d : Display) (h : Held) where
-  pub turned-stop : (held_for h (m + 1)).number ≡ 0 → turned (suc k) m d h ≡ OptionPicture.Some (at m d)
+  pub turned_stop : (held_for h (m + 1)).number ≡ 0 → turned (suc k) m d h ≡ OptionPicture.Some (at m d)
   unfolding turned
-  turned-stop e = rw (ne_eqb (held_for h (m + 1)).number (m + 1) (λ z. omega (arith, e, z)))
+  turned_stop e = rw (ne_eqb (held_for h (m + 1)).number (m + 1) (λ z. omega (arith, e, z)))
 
-  pub turned-error : (held_for h (m + 1)).number ≡ m + 1 → ((held_for h (m + 1)).answer ≡ 0 → ⊥) → turned (suc k) m d h ≡ OptionPicture.None
+  pub turned_error : (held_for h (m + 1)).number ≡ m + 1 → ((held_for h (m + 1)).answer ≡ 0 → ⊥) → turned (suc k) m d h ≡ OptionPicture.None
   unfolding turned
-  turned-error e z = rw (eq-eqb (held_for h (m + 1)).number (m + 1) e, ne_eqb (held_for h (m + 1)).answer 0 z)
+  turned_error e z = rw (eq-eqb (held_for h (m + 1)).number (m + 1) e, ne_eqb (held_for h (m + 1)).answer 0 z)
 
-  pub turned-next : (held_for h (m + 1)).number ≡ m + 1 → (held_for h (m + 1)).answer ≡ 0
+  pub turned_next : (held_for h (m + 1)).number ≡ m + 1 → (held_for h (m + 1)).answer ≡ 0
       → turned (suc k) m d h ≡ turned k (m + 1) (all_applied (held_for h (m + 1)).notices d) h
   unfolding turned
-  turned-next e z = rw (eq-eqb (held_for h (m + 1)).number (m + 1) e, eq-eqb (held_for h (m + 1)).answer 0 z)
+  turned_next e z = rw (eq-eqb (held_for h (m + 1)).number (m + 1) e, eq-eqb (held_for h (m + 1)).answer 0 z)
 
 -- the two takes that go in turn, of a follower that shows s with h held
 
 module _ (s : Picture) (h : Held) (w : Within (s.number + 2) (s.number + 8) h) where
-  pub within-most : (i : ℕ) → i < 8 → (packet_at h i).number ≤ s.number + 8
-  within-most i l =
+  pub within_most : (i : ℕ) → i < 8 → (packet_at h i).number ≤ s.number + 8
+  within_most i l =
       ⊎_elim (λ e. let a : (packet_at h i).number ≡ 0 = ap (λ (p : EventPacket). p.number) e in omega (arith, a)) (λ q. q.1) (w.1 i l)
 
-  pub picture-turned : (p : Picture) → s.number < p.number
+  pub picture_turned : (p : Picture) → s.number < p.number
       → taken_at (Shown.Picture s) h (Packet.Picture p)
       ≡ outcome (greatest p.number 8 h) (turned 8 p.number p.display h) p.number (above p.number 8 h)
-  picture-turned p l =
+  picture_turned p l =
       let g = above p.number 8 h in
-      picture-new s h p l
+      picture_new s h p l
       ∙ (turn_outcome 8 (greatest p.number 8 g) p.number p.display g (omega arith)
-      ∙ ((λ i. outcome (greatest-left p.number h w.0 i) (turned_left p.number h w.0 8 p.number p.display (omega arith) i) p.number g)))
+      ∙ ((λ i. outcome (greatest_left p.number h w.0 i) (turned_left p.number h w.0 8 p.number p.display (omega arith) i) p.number g)))
 
   module _ (e : EventPacket) (q : e.number ≡ s.number + 1) where
     next-empty : packet_at h (e.number % 8) ≡ none
@@ -245,11 +245,11 @@ module _ (s : Picture) (h : Held) (w : Within (s.number + 2) (s.number + 8) h) w
 
     floor : greatest s.number 8 (placed h e) ≡ greatest e.number 8 h
     floor =
-        placed-floor s.number h e (omega (arith, q)) (omega (arith, q)) w next-free
+        placed_floor s.number h e (omega (arith, q)) (omega (arith, q)) w next-free
         ∙ ap (λ (m : ℕ). greatest m 8 h) (max-eq_right (omega (arith, q)))
 
     new-event : taken_at (Shown.Picture s) h (Packet.Event e) ≡ settled s (placed h e)
-    new-event = event-new s h e (omega (arith, q)) (omega (arith, q)) next-free
+    new-event = event_new s h e (omega (arith, q)) (omega (arith, q)) next-free
 
     first-turn : (f : ℕ) → in_turn 8 f s.number s.display (placed h e)
         ≡ cond (eqb e.answer 0) (in_turn 7 f e.number (all_applied e.notices s.display) h) (lost f)
@@ -280,7 +280,7 @@ module _ (s : Picture) (h : Held) (w : Within (s.number + 2) (s.number + 8) h) w
     event-turned z =
         let d = all_applied e.notices s.display in
         let f = greatest s.number 8 (placed h e) in
-        let x : turned 8 e.number d h ≡ turned 7 e.number d h = turned-fuel (s.number + 8) h within-most 7 e.number d (omega (arith, q)) in
+        let x : turned 8 e.number d h ≡ turned 7 e.number d h = turned_fuel (s.number + 8) h within_most 7 e.number d (omega (arith, q)) in
         new-event
         ∙ (first-turn f
         ∙ (rw (eq-eqb _ _ z)
@@ -363,8 +363,8 @@ module _ (n : ℕ) (h : Held) (w : Within (n + 2) (n + 8) h) where
   in_place i l p =
       ⊎_elim (λ z. absurd (let a : (packet_at h i).number ≡ 0 = ap (λ (x : EventPacket). x.number) z in omega (arith, a, p))) (λ z. z.3) (w.1 i l)
 
-  drop-kept : (m : ℕ) (g : Held) → KeptAbove m h g → KeptAbove (m + 1) h (dropped g (m + 1))
-  drop-kept m g k =
+  drop_kept : (m : ℕ) (g : Held) → KeptAbove m h g → KeptAbove (m + 1) h (dropped g (m + 1))
+  drop_kept m g k =
       record { size = length-set g.packets ((m + 1) % 8) none ∙ k.size; each = λ i l. by i l (eqb i ((m + 1) % 8)) refl }
     where
       by : (i : ℕ) → i < 8 → (t : Bool) → eqb i ((m + 1) % 8) ≡ t
@@ -383,17 +383,17 @@ module _ (n : ℕ) (h : Held) (w : Within (n + 2) (n + 8) h) where
           inr (x ∙ z.0, omega (arith, y, v, z.1, c, u)))
           (k.each i l)
 
-  to-kept : (j m : ℕ) (g : Held) → KeptAbove m h g → KeptAbove (m + j) h (dropped_to j m g)
-  to-kept zero m g k = let e : m + 0 ≡ m = omega arith in subst (λ (x : ℕ). KeptAbove x h g) (sym e) k
-  to-kept (suc j) m g k =
+  to_kept : (j m : ℕ) (g : Held) → KeptAbove m h g → KeptAbove (m + j) h (dropped_to j m g)
+  to_kept zero m g k = let e : m + 0 ≡ m = omega arith in subst (λ (x : ℕ). KeptAbove x h g) (sym e) k
+  to_kept (suc j) m g k =
       let e : m + 1 + j ≡ m + suc j = omega arith in
-      subst (λ (x : ℕ). KeptAbove x h (dropped_to j (m + 1) (dropped g (m + 1)))) e (to-kept j (m + 1) (dropped g (m + 1)) (drop-kept m g k))
+      subst (λ (x : ℕ). KeptAbove x h (dropped_to j (m + 1) (dropped g (m + 1)))) e (to_kept j (m + 1) (dropped g (m + 1)) (drop_kept m g k))
 
   -- the places of other events are left
-  to-stays : (j m : ℕ) (g : Held) (i : ℕ) → ((x : ℕ) → m < x → x ≤ m + j → i ≡ x % 8 → ⊥) → packet_at (dropped_to j m g) i ≡ packet_at g i
-  to-stays zero m g i f = refl
-  to-stays (suc j) m g i f =
-      to-stays j (m + 1) (dropped g (m + 1)) i (λ x a b. f x (omega (arith, a)) (omega (arith, b)))
+  to_stays : (j m : ℕ) (g : Held) (i : ℕ) → ((x : ℕ) → m < x → x ≤ m + j → i ≡ x % 8 → ⊥) → packet_at (dropped_to j m g) i ≡ packet_at g i
+  to_stays zero m g i f = refl
+  to_stays (suc j) m g i f =
+      to_stays j (m + 1) (dropped g (m + 1)) i (λ x a b. f x (omega (arith, a)) (omega (arith, b)))
       ∙ get_or-set_other g.packets ((m + 1) % 8) i none none (f (m + 1) (omega arith) (omega arith))
 
   module _ (m q : ℕ) (a : n < m) (b : m ≤ q) where
@@ -403,7 +403,7 @@ module _ (n : ℕ) (h : Held) (w : Within (n + 2) (n + 8) h) where
     kept : KeptAbove q h after
     kept =
         let e : m + (q - m) ≡ q = omega (arith, b) in
-        subst (λ (x : ℕ). KeptAbove x h (dropped_to (q - m) m (above m 8 h))) e (to-kept (q - m) m (above m 8 h) (above_kept m h w.0))
+        subst (λ (x : ℕ). KeptAbove x h (dropped_to (q - m) m (above m 8 h))) e (to_kept (q - m) m (above m 8 h) (above_kept m h w.0))
 
     -- an event above q and up to n + 8 is held as before
     pub held_same : (t : ℕ) → q < t → t ≤ n + 8 → held_for after t ≡ held_for h t
@@ -413,7 +413,7 @@ module _ (n : ℕ) (h : Held) (w : Within (n + 2) (n + 8) h) where
         by (inl z) = ⊎_elim (λ y. y ∙ sym z) (λ y. y.0) (kept.each (t % 8) (mod8 t))
         by (inr z) =
             let c : m < (held_for h t).number = omega (arith, a, b, l, u, z.0, z.1, z.3) in
-            to-stays (q - m) m (above m 8 h) (t % 8) (λ x d e r. omega (arith, a, b, l, u, d, e, r)) ∙ above_stays m 8 h (t % 8) c
+            to_stays (q - m) m (above m 8 h) (t % 8) (λ x d e r. omega (arith, a, b, l, u, d, e, r)) ∙ above_stays m 8 h (t % 8) c
 
     -- one beyond n + 8 is not held
     pub held_none : (t : ℕ) → n + 8 < t → q < t → t ≤ q + 8 → held_for after t ≡ none

@@ -36,18 +36,18 @@ settled_floor s h f e =
 
 module _ (n : ℕ) (h : Held) (e : EventPacket) (a : n < e.number) (b : e.number ≤ n + 8) (w : Within (n + 2) (n + 8) h)
     (z : (held_for h e.number).number ≡ e.number → ⊥) where
-  j-lt : e.number % 8 < 8
-  j-lt = mod-lt e.number {m = 8} (lit< tt)
+  j_lt : e.number % 8 < 8
+  j_lt = mod-lt e.number {m = 8} (lit< tt)
 
   -- the packet's place holds none
   empty : (packet_at h (e.number % 8)).number ≡ 0
   empty =
       ⊎_elim (λ q. ap (λ (p : EventPacket). p.number) q)
       (λ q. absurd (z (omega (arith, q.0, q.1, q.3))))
-      (w.1 (e.number % 8) j-lt)
+      (w.1 (e.number % 8) j_lt)
 
   here : (packet_at (placed h e) (e.number % 8)).number ≡ e.number
-  here = ap (λ (p : EventPacket). p.number) (get_or-set_same h.packets (e.number % 8) e none (omega (arith, w.0, j-lt)))
+  here = ap (λ (p : EventPacket). p.number) (get_or-set_same h.packets (e.number % 8) e none (omega (arith, w.0, j_lt)))
 
   there : (i : ℕ) → eqb i (e.number % 8) ≡ false → (packet_at (placed h e) i).number ≡ (packet_at h i).number
   there i t = ap (λ (p : EventPacket). p.number) (get_or-set_other h.packets (e.number % 8) i e none (eqb-false _ _ t))
@@ -74,15 +74,15 @@ module _ (n : ℕ) (h : Held) (e : EventPacket) (a : n < e.number) (b : e.number
       omega (arith, x)
   down i l false t = omega (arith, there i t, greatest_held n 8 (placed h e) i l)
 
-  pub placed-floor : greatest n 8 (placed h e) ≡ greatest (max n e.number) 8 h
+  pub placed_floor : greatest n 8 (placed h e) ≡ greatest (max n e.number) 8 h
   unfolding most most'
-  placed-floor =
+  placed_floor =
       let p : most' ≤ most =
       greatest_le n most 8 (placed h e) (omega (arith, greatest_base (max n e.number) 8 h, le-max_left n e.number))
       (λ i l. up i l (eqb i (e.number % 8)) refl) in
       let q : most ≤ most' =
       greatest_le (max n e.number) most' 8 h
-      (max-le (greatest_base n 8 (placed h e)) (omega (arith, here, greatest_held n 8 (placed h e) (e.number % 8) j-lt)))
+      (max-le (greatest_base n 8 (placed h e)) (omega (arith, here, greatest_held n 8 (placed h e) (e.number % 8) j_lt)))
       (λ i l. down i l (eqb i (e.number % 8)) refl) in
       omega (arith, p, q)
 
@@ -99,7 +99,7 @@ tested s h e f w false true z p q r k =
 tested s h e f w false false true p q r k = never s h f k
 tested s h e f w false false false p q r k =
     settled_floor s (placed h e) f k
-    ∙ placed-floor s.number h e (leb-false _ _ p) (ltb-false _ _ q) w (eqb-false _ _ r)
+    ∙ placed_floor s.number h e (leb-false _ _ p) (ltb-false _ _ q) w (eqb-false _ _ r)
 
 pub event_floor : (s : Picture) (h : Held) (e : EventPacket) (f : ℕ) → WellFormed (showing s h)
     → taken (showing s h) (Packet.Event e) ≡ lost f → f ≡ greatest (max s.number e.number) 8 h

@@ -126,31 +126,31 @@ Seen m k h g =
     × ((i : ℕ) → i < 8 → (packet_at g i ≡ none) ⊎ ((packet_at g i ≡ packet_at h i) × (i < k → m < (packet_at g i).number)))
 
 module _ (m k : ℕ) (h g : Held) (l : k < 8) (w : Seen m k h g) where
-  drop-tested : (i : ℕ) → i < 8 → (t : Bool) → eqb i k ≡ t
+  drop_tested : (i : ℕ) → i < 8 → (t : Bool) → eqb i k ≡ t
       → (packet_at (put g k none) i ≡ none) ⊎ ((packet_at (put g k none) i ≡ packet_at h i) × (i < suc k → m < (packet_at (put g k none) i).number))
-  drop-tested i li true t =
+  drop_tested i li true t =
       let s : i ≡ k = eqb-true i k t in
       inl (rw s (get_or-set_same g.packets k none none (omega (arith, w.0))))
-  drop-tested i li false t =
+  drop_tested i li false t =
       let s : i ≡ k → ⊥ = eqb-false i k t in
       let x : get_or (set g.packets k none) i none ≡ get_or g.packets i none = get_or-set_other g.packets k i none none s in
       rw x (⊎_elim (λ e. inl e) (λ q. inr (q.0, λ y. q.1 (omega (arith, s)))) (w.1 i li))
 
-  keep-tested : (i : ℕ) → m < (packet_at g k).number → (i < k → m < (packet_at g i).number) → i < suc k → (t : Bool) → eqb i k ≡ t
+  keep_tested : (i : ℕ) → m < (packet_at g k).number → (i < k → m < (packet_at g i).number) → i < suc k → (t : Bool) → eqb i k ≡ t
       → m < (packet_at g i).number
-  keep-tested i z q y true t =
+  keep_tested i z q y true t =
       let s : i ≡ k = eqb-true i k t in
       rw s z
-  keep-tested i z q y false t =
+  keep_tested i z q y false t =
       let s : i ≡ k → ⊥ = eqb-false i k t in
       q (omega (arith, s))
 
   seen_next : (t : Bool) → leb (packet_at g k).number m ≡ t → Seen m (suc k) h (cond t (put g k none) g)
-  seen_next true t = (length-set g.packets k none ∙ w.0, λ i li. drop-tested i li (eqb i k) refl)
+  seen_next true t = (length-set g.packets k none ∙ w.0, λ i li. drop_tested i li (eqb i k) refl)
   seen_next false t = (
     w.0,
     λ i li.
-        ⊎_elim (λ e. inl e) (λ q. inr (q.0, λ y. keep-tested i (leb-false _ _ t) q.1 y (eqb i k) refl)) (w.1 i li),
+        ⊎_elim (λ e. inl e) (λ q. inr (q.0, λ y. keep_tested i (leb-false _ _ t) q.1 y (eqb i k) refl)) (w.1 i li),
   )
 
 pub seen : (m k : ℕ) (h : Held) → length h.packets ≡ 8 → k ≤ 8 → Seen m k h (above m k h)

@@ -31,28 +31,28 @@ picture_low floor p l = rw (lt-ltb _ _ l)
 
 module _ (s : Picture) (h : Held) where
   -- showing n: what is numbered n or less is dropped, and so is the second of equal numbers
-  pub event-old : (e : EventPacket) → e.number ≤ s.number → taken (showing s h) (Packet.Event e) ≡ showing s h
-  event-old e l = rw (le-leb _ _ l)
+  pub event_old : (e : EventPacket) → e.number ≤ s.number → taken (showing s h) (Packet.Event e) ≡ showing s h
+  event_old e l = rw (le-leb _ _ l)
 
-  pub picture-old : (p : Picture) → p.number ≤ s.number → taken (showing s h) (Packet.Picture p) ≡ showing s h
-  picture-old p l = rw (le-leb _ _ l)
+  pub picture_old : (p : Picture) → p.number ≤ s.number → taken (showing s h) (Packet.Picture p) ≡ showing s h
+  picture_old p l = rw (le-leb _ _ l)
 
-  pub event-held : (e : EventPacket) → s.number < e.number → e.number ≤ s.number + 8 → (held_for h e.number).number ≡ e.number
+  pub event_held : (e : EventPacket) → s.number < e.number → e.number ≤ s.number + 8 → (held_for h e.number).number ≡ e.number
       → taken (showing s h) (Packet.Event e) ≡ showing s h
-  event-held e l m q = rw (lt-leb _ _ l, le-ltb _ _ m, eq-eqb _ _ q)
+  event_held e l m q = rw (lt-leb _ _ l, le-ltb _ _ m, eq-eqb _ _ q)
 
   -- n + 1 to n + 8, not held yet: held, and then in turn; beyond, lost
-  pub event-new : (e : EventPacket) → s.number < e.number → e.number ≤ s.number + 8
+  pub event_new : (e : EventPacket) → s.number < e.number → e.number ≤ s.number + 8
       → ((held_for h e.number).number ≡ e.number → ⊥) → taken (showing s h) (Packet.Event e) ≡ settled s (placed h e)
-  event-new e l m q = rw (lt-leb _ _ l, le-ltb _ _ m, ne_eqb _ _ q)
+  event_new e l m q = rw (lt-leb _ _ l, le-ltb _ _ m, ne_eqb _ _ q)
 
-  pub event-beyond : (e : EventPacket) → s.number + 8 < e.number → taken (showing s h) (Packet.Event e) ≡ lost (greatest e.number 8 h)
-  event-beyond e l =
+  pub event_beyond : (e : EventPacket) → s.number + 8 < e.number → taken (showing s h) (Packet.Event e) ≡ lost (greatest e.number 8 h)
+  event_beyond e l =
       let k : s.number < e.number = omega arith in
       rw (lt-leb _ _ k, lt-ltb _ _ l)
 
-  pub picture-new : (p : Picture) → s.number < p.number → taken (showing s h) (Packet.Picture p) ≡ settled p (above p.number 8 h)
-  picture-new p l = rw (lt-leb _ _ l)
+  pub picture_new : (p : Picture) → s.number < p.number → taken (showing s h) (Packet.Picture p) ≡ settled p (above p.number 8 h)
+  picture_new p l = rw (lt-leb _ _ l)
 
 -- the greatest number met: at least the number given and each number held, and one of them
 pub greatest_base : (m k : ℕ) (h : Held) → m ≤ greatest m k h

@@ -52,9 +52,9 @@ unfolding above
 above_next m i h = rw add-one
 
 module _ (m i : ℕ) (xs ys : List EventPacket) (h : Held) (e : record { packets = xs } ≡ above m i h) where
-  pub above-drop : (p : EventPacket) → p ≡ none → (get_or xs i none).number ≤ m → ys ≡ set xs i p → record { packets = ys } ≡ above m (i + 1) h
-  above-drop p q l f =
+  pub above_drop : (p : EventPacket) → p ≡ none → (get_or xs i none).number ≤ m → ys ≡ set xs i p → record { packets = ys } ≡ above m (i + 1) h
+  above_drop p q l f =
       rw (above_next, ← e, le-leb _ _ l) (ap (λ (zs : List EventPacket). record { packets = zs }) (f ∙ ap (set xs i) q))
 
-  pub above-keep : m < (get_or xs i none).number → ys ≡ xs → record { packets = ys } ≡ above m (i + 1) h
-  above-keep l f = rw (above_next, ← e, lt-leb _ _ l) (ap (λ (zs : List EventPacket). record { packets = zs }) f)
+  pub above_keep : m < (get_or xs i none).number → ys ≡ xs → record { packets = ys } ≡ above m (i + 1) h
+  above_keep l f = rw (above_next, ← e, lt-leb _ _ l) (ap (λ (zs : List EventPacket). record { packets = zs }) f)

@@ -25,15 +25,15 @@ module _ (f n : ℕ) (d : Display) (h : Held) where
   pub stops : (k : ℕ) → ((packet_at h ((n % 8 + 1) % 8)).number ≡ n + 1 → ⊥) → in_turn k f n d h ≡ showing (at n d) h
   stops k e = stops_at k (rw (next_place n) at e)
 
-  fails-at : (k : ℕ) → (packet_at h ((n + 1) % 8)).number ≡ n + 1 → ((packet_at h ((n + 1) % 8)).answer ≡ 0 → ⊥) → in_turn (suc k) f n d h ≡ lost f
+  fails_at : (k : ℕ) → (packet_at h ((n + 1) % 8)).number ≡ n + 1 → ((packet_at h ((n + 1) % 8)).answer ≡ 0 → ⊥) → in_turn (suc k) f n d h ≡ lost f
   unfolding in_turn
-  fails-at k e a = rw (eq-eqb _ _ e, ne_eqb _ _ a)
+  fails_at k e a = rw (eq-eqb _ _ e, ne_eqb _ _ a)
 
   pub fails : (k : ℕ) → 0 < k → (packet_at h ((n % 8 + 1) % 8)).number ≡ n + 1 → ((packet_at h ((n % 8 + 1) % 8)).answer ≡ 0 → ⊥)
       → in_turn k f n d h ≡ lost f
   fails k l e a =
       let s : k ≡ suc (k - 1) = omega arith in
-      ap (λ (j : ℕ). in_turn j f n d h) s ∙ fails-at (k - 1) (rw (next_place n) at e) (rw (next_place n) at a)
+      ap (λ (j : ℕ). in_turn j f n d h) s ∙ fails_at (k - 1) (rw (next_place n) at e) (rw (next_place n) at a)
 
   goes_at : (k : ℕ) → (packet_at h ((n + 1) % 8)).number ≡ n + 1 → (packet_at h ((n + 1) % 8)).answer ≡ 0
       → in_turn (suc k) f n d h ≡ in_turn k f (n + 1) (all_applied (packet_at h ((n + 1) % 8)).notices d) (dropped h (n + 1))

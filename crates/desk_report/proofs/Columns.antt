@@ -11,7 +11,7 @@ use lib.ListN.{length, take, drop, set, replicate, length-drop, take-append-drop
 use lib.Pow.{shr-shr}
 use borrow.Author.Tests.{lt-ltb, le-ltb}
 use Rattle.wire.specs.Bytes.{ports_from, ports_bytes}
-use Rattle.wire.proofs.Stores.{port-set, port-clear}
+use Rattle.wire.proofs.Stores.{port_set, port_clear}
 use Rattle.abstract_page.specs.Text.{blank, comma, hyphen, decimal, right}
 use Rattle.abstract_page.specs.Page.{commas, text, ports}
 use Rattle.abstract_page.proofs.Columns.{right_short, right_long, right_more}
@@ -67,14 +67,14 @@ port_there mask zero p h e = absurd (omega arith)
 port_there mask (suc j) p h e =
     let z : suc j - 1 ≡ j = omega arith in
     let k : j < 16 = omega arith in
-    rw (z, port-set j (mask / 2 ^ j) k (rw z at e), next_bits mask j, add-one j)
+    rw (z, port_set j (mask / 2 ^ j) k (rw z at e), next_bits mask j, add-one j)
 
 pub port_absent : (mask i : ℕ) → 0 < i → i ≤ 16 → (mask / 2 ^ (i - 1) % 2 ≡ 1 → ⊥) → ports_at mask (i - 1) ≡ ports_at mask i
 port_absent mask zero p h e = absurd (omega arith)
 port_absent mask (suc j) p h e =
     let z : suc j - 1 ≡ j = omega arith in
     let k : j < 16 = omega arith in
-    rw (z, port-clear j (mask / 2 ^ j) k (rw z at e), next_bits mask j, add-one j)
+    rw (z, port_clear j (mask / 2 ^ j) k (rw z at e), next_bits mask j, add-one j)
 
 pub all_ports : (mask : ℕ) → ports_at mask 0 ≡ ports_bytes mask
 unfolding ports_bytes

@@ -37,9 +37,9 @@ module _ (o line l : List ℕ) (full : ℕ) (size : length o ≡ 4096) (h : full
   before : length (take full o) ≡ full
   before = length-take-le full o (omega arith)
 
-  pub with-room : full + length line ≤ 4096 → l ≡ stored_at o full line → take (full + length line) l ≡ held (take full o) line
+  pub with_room : full + length line ≤ 4096 → l ≡ stored_at o full line → take (full + length line) l ≡ held (take full o) line
   unfolding held
-  with-room k e =
+  with_room k e =
       let n : full + length line ≤ length o = omega arith in
       let s : l ≡ sets o full line = rw (le-leb (full + length line) (length o) n) at e in
       rw (before, le-leb (full + length line) 4096 k) (stored o line l full n s)

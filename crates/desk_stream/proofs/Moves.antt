@@ -25,8 +25,8 @@ module _ (from to i : ℕ) (s : List ℕ) (h : from + i < to) (k : to ≤ length
       ∙ (get_or-drop i s from 0
       ∙ (ap (λ (n : ℕ). get_or s n 0) f ∙ sym (get_or-drop from (take to s) i 0 ∙ get_or-take to s (from + i) 0 h))))
 
-  pub move-one : set (moving from to s i) i (get_or (moving from to s i) (from + i) 0) ≡ moving from to s (suc i)
-  move-one =
+  pub move_one : set (moving from to s i) i (get_or (moving from to s i) (from + i) 0) ≡ moving from to s (suc i)
+  move_one =
       let v = slice from to s in
       let a : i < length s = omega arith in
       let b : i < length v = omega (arith, length-slice from to s k) in

@@ -1,7 +1,7 @@
 -- The definitions are the set of heapless's documentation: a port's membership is its bit, and inserting or removing it changes that bit alone.
 -- Assumes nothing.
 use mathlib.Core.Path.{◌≡◌, refl, ap, sym, ◌∙◌}
-use mathlib.Core.Bool.{Bool, true, false, cond, not, ◌&&◌, ◌||◌, or-true, or-false, and_true, and_false}
+use mathlib.Core.Bool.{Bool, true, false, cond, not, ◌&&◌, ◌||◌, or-true, or-false, and-true, and-false}
 use Prim.Native.Nat.{ℕ, ◌+◌, ◌%◌, ◌^◌, ◌<◌, ◌≤◌}
 use native.Mathlib.Nat.{zero-div}
 use native.Mathlib.Omega.{arith}
@@ -52,8 +52,8 @@ without_there : (s : Providers) (p q : ℕ) → contains s p ≡ true → contai
 without_there s p q h = go (eqb q p) refl
   where
     go : (b : Bool) → eqb q p ≡ b → contains (without s p) q ≡ (contains s q && not b)
-    go true e = rw (eqb-true q p e, cleared_bit s.mask p (member s p h).1, and_false (ltb p 16)) (sym (and_false (contains s p)))
-    go false e = rw (cleared_others s.mask p q (eqb-false q p e)) (sym (and_true (contains s q)))
+    go true e = rw (eqb-true q p e, cleared_bit s.mask p (member s p h).1, and-false (ltb p 16)) (sym (and-false (contains s p)))
+    go false e = rw (cleared_others s.mask p q (eqb-false q p e)) (sym (and-true (contains s q)))
 
 -- over numbers
 
@@ -77,8 +77,8 @@ abbrev pub removed : Providers → ℕ → Bool → Removed
 removed s p c = cond c (record { found = true; providers = without s p }) (record { found = false; providers = s })
 
 inserted_there : (s : Providers) (p q : ℕ) (c : Bool) → contains s p ≡ c → (r : Bool) → room s p ≡ r → contains (inserted s p c r).providers q ≡ (contains s q || eqb q p && r)
-inserted_there s p q false e true f = with_there s p q (has_room s p f).0 ∙ ap (λ (b : Bool). contains s q || b) (sym (and_true (eqb q p)))
-inserted_there s p q false e false f = sym (ap (λ (b : Bool). contains s q || b) (and_false (eqb q p)) ∙ or-false (contains s q))
+inserted_there s p q false e true f = with_there s p q (has_room s p f).0 ∙ ap (λ (b : Bool). contains s q || b) (sym (and-true (eqb q p)))
+inserted_there s p q false e false f = sym (ap (λ (b : Bool). contains s q || b) (and-false (eqb q p)) ∙ or-false (contains s q))
 inserted_there s p q true e r f = go (eqb q p) refl
   where
     go : (b : Bool) → eqb q p ≡ b → contains s q ≡ (contains s q || b && r)
@@ -98,7 +98,7 @@ removed_there s p q false e = go (eqb q p) refl
   where
     go : (b : Bool) → eqb q p ≡ b → contains s q ≡ (contains s q && not b)
     go true i = rw (eqb-true q p i, e)
-    go false i = sym (and_true (contains s q))
+    go false i = sym (and-true (contains s q))
 
 pub removed_length : (s : Providers) (p : ℕ) (c : Bool) → contains s p ≡ c → len s ≡ len (removed s p c).providers + cond (removed s p c).found 1 0
 removed_length s p false e = as_many (len s)
@@ -122,7 +122,7 @@ pub set_laws : SetLaws
 set_laws =
     record {
       capacity = refl;
-      none_there = λ q. rw (none_bit q) (and_false (ltb q 16));
+      none_there = λ q. rw (none_bit q) (and-false (ltb q 16));
       none_length = refl;
       room_is = λ s p. (has_room s p, λ h. rw (lt-ltb p 16 h.0, lt-ltb (len s) max_connected_providers h.1));
       present = λ s p e. rw e;

@@ -13,7 +13,7 @@ use lib.Seq.{take_at, drop_at, get_or-drop, get_or-take}
 use borrow.Author.Tests.{ltb-true, ltb-false}
 use Rattle.power_policy_interface.specs.declared.charger.State as charger
 use Rattle.power_policy_interface.specs.declared.psu.State as psu
-use Rattle.interface_records.specs.Row.{AllBytes, consOption, records, written}
+use Rattle.interface_records.specs.Row.{AllBytes, cons_option, records, written}
 use Rattle.interface_records.specs.Psu.{psu_bytes, psu_from, read_psu}
 use Rattle.interface_records.specs.Charger.{charger_bytes, charger_from, read_charger}
 use Rattle.interface_records.specs.declared.psu.ReadPsu.{ReadPsu}
@@ -40,11 +40,11 @@ module _ {A : Type 0} (read : List ℕ → Option A) (write : A → List ℕ) (w
   back hw hr (a ∷ l) =
       rw (take_at (write a) (written write l) w (hw a), drop_at (write a) (written write l) w (hw a), hr a, back hw hr l)
 
-  cons-told : (o : Option A) (r : Option (List A)) (l : List A) → consOption o r ≡ some l
+  cons_told : (o : Option A) (r : Option (List A)) (l : List A) → cons_option o r ≡ some l
       → (a : A) × (m : List A) × (o ≡ some a) × (r ≡ some m) × (l ≡ a ∷ m)
-  cons-told none r l e = absurd (let z : ◌≡◌ {A = ℕ} 0 1 = cc in omega arith)
-  cons-told (some a) none l e = absurd (let z : ◌≡◌ {A = ℕ} 0 1 = cc in omega arith)
-  cons-told (some a) (some m) l e = (a, m, refl, refl, (let k : l ≡ a ∷ m = cc in k))
+  cons_told none r l e = absurd (let z : ◌≡◌ {A = ℕ} 0 1 = cc in omega arith)
+  cons_told (some a) none l e = absurd (let z : ◌≡◌ {A = ℕ} 0 1 = cc in omega arith)
+  cons_told (some a) (some m) l e = (a, m, refl, refl, (let k : l ≡ a ∷ m = cc in k))
 
   -- bytes that are read as a row were written so
   pub forth : ((s : List ℕ) (a : A) → AllBytes s → read s ≡ some a → s ≡ write a) → (n : ℕ) (s : List ℕ) (l : List A)
@@ -53,7 +53,7 @@ module _ {A : Type 0} (read : List ℕ → Option A) (write : A → List ℕ) (w
   forth hs zero (x ∷ s) l e h q = absurd (omega (arith, rw zero-mul at e))
   forth hs (suc n) s l e h q =
       let f : length s ≡ n * w + w = e ∙ suc-mul n w in
-      let c = cons-told (read (take w s)) (records read w n (drop w s)) l q in
+      let c = cons_told (read (take w s)) (records read w n (drop w s)) l q in
       let d : length (drop w s) ≡ n * w = rw length-drop (omega arith) in
       let r = forth hs n (drop w s) c.1 d (drop_bytes w s h) c.3 in
       let a = hs (take w s) c.0 (take_bytes_lem w s h) c.2 in

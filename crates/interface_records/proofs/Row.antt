@@ -11,7 +11,7 @@ use native.Mathlib.Omega.{arith}
 use lib.ListN.{length, get_or, take, drop, set, replicate, length-set, length-replicate, take-append-drop}
 use lib.Seq.{take-suc-set, drop-set-lt, drop-drop, drop-cons, length-take-le}
 use borrow.Author.Tests.{le-leb, lt-leb, eq-eqb, ne_eqb}
-use Rattle.interface_records.specs.Row.{consOption, records, row, filled}
+use Rattle.interface_records.specs.Row.{cons_option, records, row, filled}
 
 module _ {A : Type 0} where
   -- what was read so far, followed by what the rest reads to
@@ -19,13 +19,13 @@ module _ {A : Type 0} where
   after l none = none
   after l (some m) = some (l ++ m)
 
-  after-nil : (r : Option (List A)) → after [] r ≡ r
-  after-nil none = refl
-  after-nil (some m) = refl
+  after_nil : (r : Option (List A)) → after [] r ≡ r
+  after_nil none = refl
+  after_nil (some m) = refl
 
-  after-snoc : (l : List A) (a : A) (r : Option (List A)) → after l (consOption (some a) r) ≡ after (l ++ (a ∷ [])) r
-  after-snoc l a none = refl
-  after-snoc l a (some m) = ap some (sym (append_assoc l (a ∷ []) m))
+  after_snoc : (l : List A) (a : A) (r : Option (List A)) → after l (cons_option (some a) r) ≡ after (l ++ (a ∷ [])) r
+  after_snoc l a none = refl
+  after_snoc l a (some m) = ap some (sym (append_assoc l (a ∷ []) m))
 
 module _ {A : Type 0} (read : List ℕ → Option A) (width n : ℕ) (s : List ℕ) where
   -- the first i places of xs are what was read of the row's n records
@@ -36,9 +36,9 @@ module _ {A : Type 0} (read : List ℕ → Option A) (width n : ℕ) (s : List �
   start xs =
       let e : 0 * width ≡ 0 = omega arith in
       let f : n - 0 ≡ n = omega arith in
-      rw (e, f) (sym (after-nil (records read width n s)))
+      rw (e, f) (sym (after_nil (records read width n s)))
 
-  rest : (i : ℕ) → i < n → records read width (n - i) (drop (i * width) s) ≡ consOption (read (take width (drop (i * width) s))) (records read width (n - (i + 1)) (drop ((i + 1) * width) s))
+  rest : (i : ℕ) → i < n → records read width (n - i) (drop (i * width) s) ≡ cons_option (read (take width (drop (i * width) s))) (records read width (n - (i + 1)) (drop ((i + 1) * width) s))
   rest i h =
       let e : n - i ≡ suc (n - (i + 1)) = omega arith in
       let f : (i + 1) * width ≡ i * width + width = rw add-one (suc-mul i width) in
@@ -49,15 +49,15 @@ module _ {A : Type 0} (read : List ℕ → Option A) (width n : ℕ) (s : List �
   next xs i a h hx e q =
       let t : take (i + 1) (set xs i a) ≡ take i xs ++ (a ∷ []) = rw add-one (take-suc-set xs i a hx) in
       q
-      ∙ (ap (after (take i xs)) (rest i h ∙ ap (λ (o : Option A). consOption o (records read width (n - (i + 1)) (drop ((i + 1) * width) s))) e)
-      ∙ (after-snoc (take i xs) a (records read width (n - (i + 1)) (drop ((i + 1) * width) s))
+      ∙ (ap (after (take i xs)) (rest i h ∙ ap (λ (o : Option A). cons_option o (records read width (n - (i + 1)) (drop ((i + 1) * width) s))) e)
+      ∙ (after_snoc (take i xs) a (records read width (n - (i + 1)) (drop ((i + 1) * width) s))
       ∙ ap (λ (l : List A). after l (records read width (n - (i + 1)) (drop ((i + 1) * width) s))) (sym t)))
 
   stop : (xs : List A) (i : ℕ) → i < n → read (take width (drop (i * width) s)) ≡ none → ReadTo xs i → records read width n s ≡ none
   stop xs i h e q =
       q
       ∙ ap (after (take i xs))
-      (rest i h ∙ ap (λ (o : Option A). consOption o (records read width (n - (i + 1)) (drop ((i + 1) * width) s))) e)
+      (rest i h ∙ ap (λ (o : Option A). cons_option o (records read width (n - (i + 1)) (drop ((i + 1) * width) s))) e)
 
   end : (xs : List A) (i : ℕ) → i ≡ n → ReadTo xs i → records read width n s ≡ some (take n xs)
   end xs i e q =
@@ -78,8 +78,8 @@ module _ {A : Type 0} (d : A) (m : ℕ) (xs : List A) (e : length xs ≡ m) wher
       (rw (← add-one i) (tail (get_or xs i d) (drop (i + 1) xs) (replicate (m - (i + 1)) d) (sym (rw add-one (drop-cons xs i d hx)) ∙ p)))
 
   -- the places passed, filled up, are the array
-  filled-up : (n : ℕ) → n ≤ m → drop n xs ≡ replicate (m - n) d → filled m d (take n xs) ≡ xs
-  filled-up n h q =
+  filled_up : (n : ℕ) → n ≤ m → drop n xs ≡ replicate (m - n) d → filled m d (take n xs) ≡ xs
+  filled_up n h q =
       let hx : n ≤ length xs = omega arith in
       rw (length-take-le n xs hx, ← q) (take-append-drop n xs)
 
@@ -112,12 +112,12 @@ module _ {A : Type 0} (read : List ℕ → Option A) (width most : ℕ) (d : A) 
       }
 
   -- the record at place i, as a part of the row
-  abbrev recordAt : ℕ → List ℕ
-  recordAt i = take (i * width + width - i * width) (drop (i * width) s)
+  abbrev record_at : ℕ → List ℕ
+  record_at i = take (i * width + width - i * width) (drop (i * width) s)
 
-  pub gone-on : (xs : List A) (i : ℕ) (a : A) → i < n → read (recordAt i) ≡ some a → Reached read width most d n s xs i
+  pub gone_on : (xs : List A) (i : ℕ) (a : A) → i < n → read (record_at i) ≡ some a → Reached read width most d n s xs i
       → Reached read width most d n s (set xs i a) (i + 1)
-  gone-on xs i a h e q =
+  gone_on xs i a h e q =
       let hm : i < most = omega arith in
       let hx : i < length xs = omega arith in
       record {
@@ -129,7 +129,7 @@ module _ {A : Type 0} (read : List ℕ → Option A) (width most : ℕ) (d : A) 
         front = next read width n s xs i a h hx (rw (add-sub_cancel_left (i * width) width) at e) q.front;
       }
 
-  pub turned_back : (xs : List A) (i : ℕ) → i < n → read (recordAt i) ≡ none → Reached read width most d n s xs i
+  pub turned_back : (xs : List A) (i : ℕ) → i < n → read (record_at i) ≡ none → Reached read width most d n s xs i
       → row read width most n s ≡ none
   turned_back xs i h e q =
       rw (le-leb n most q.few, eq-eqb (length s) (n * width) q.whole)
@@ -140,5 +140,5 @@ module _ {A : Type 0} (read : List ℕ → Option A) (width most : ℕ) (d : A) 
   all_read xs i h q =
       let e : i ≡ n = omega arith in (
         rw (le-leb n most q.few, eq-eqb (length s) (n * width) q.whole) (end read width n s xs i e q.front),
-        filled-up d most xs q.places n q.few (rw e at q.others),
+        filled_up d most xs q.places n q.few (rw e at q.others),
       )

@@ -3,15 +3,15 @@ use Rattle.std.specs.Prelude.{ℕ, zero, suc, ◌*◌, ◌-◌, ◌<◌, ◌&&�
 use Rattle.std.proofs.Math.Option.{Option, none, some}
 
 module _ {A : Type 0} where
-  abbrev pub consOption : Option A → Option (List A) → Option (List A)
-  consOption none l = none
-  consOption (some a) none = none
-  consOption (some a) (some l) = some (a ∷ l)
+  abbrev pub cons_option : Option A → Option (List A) → Option (List A)
+  cons_option none l = none
+  cons_option (some a) none = none
+  cons_option (some a) (some l) = some (a ∷ l)
 
   -- n records of `width` bytes from the front on
   abbrev pub records : (List ℕ → Option A) → ℕ → ℕ → List ℕ → Option (List A)
   records read width zero s = some []
-  records read width (suc n) s = consOption (read (take width s)) (records read width n (drop width s))
+  records read width (suc n) s = cons_option (read (take width s)) (records read width n (drop width s))
 
   -- at most `most` records, of exactly the bytes given
   abbrev pub row : (List ℕ → Option A) → ℕ → ℕ → ℕ → List ℕ → Option (List A)

@@ -37,7 +37,7 @@ use denote.Triple.Clauses.{Ended, Clauses, at_exit, closing, ensured}
 use denote.Triple.Spec.{Meets, triple_of}
 use denote.Triple.Table.{entered, cited}
 use denote.Triple.Walked.{Stays, stay_ref, stay_none, walk_of, Goes-none, Goes-ref, ends_at, walked, walk_Meets}
-use Rattle.policy_in_place.proofs.ByValue.{byValueWith, saysWith, ByValueWith, handedWith, handsWith, hearsWith, beside}
+use Rattle.policy_in_place.proofs.ByValue.{by_value_with, saysWith, ByValueWith, handedWith, handsWith, hearsWith, beside}
 use Rattle.policy_in_place.proofs.Data.{Data, Pair, row, pair_row, pair_ty}
 
 module _ {R S : Data} (T : Pair R S) (X : Data) where
@@ -108,7 +108,7 @@ module _ {R S : Data} (T : Pair R S) (X : Data) where
             use0 𝓛 (raw ((ByValueWith S X (pair_row T) F 𝓛).pre (handedWith S X (pair_row T) F 𝓛 h x))) (handsWith S X (pair_row T) F 𝓛 h x is-s is_x) $
             calls_at ! fm (ByValueWith S X (pair_row T) F 𝓛) known (handedWith S X (pair_row T) F 𝓛 h x) (and_then ! (load ! (from ! (stop !)) (look ! 8 refl)) (and_then ! (load ! (from ! (stop !)) (look ! 10 refl)) (no_more !))) (λ v.
             use1 𝓛 (later (some (λ (t : T.D). (‵ ftrue ⊛ ‵ (T.own t (v
-            ∷ []))) ⊛ raw (ensured 𝓛 (byValueWith S X (pair_row T)) (saysWith S X (pair_row T) F 𝓛) tt (h, (x, tt)) tt t)))) (id⊢ 𝓤 _) $ await ! tt $ pick ! (λ t.
+            ∷ []))) ⊛ raw (ensured 𝓛 (by_value_with S X (pair_row T)) (saysWith S X (pair_row T) F 𝓛) tt (h, (x, tt)) tt t)))) (id⊢ 𝓤 _) $ await ! tt $ pick ! (λ t.
             split ! $ move ! (1 ∷ []) $ use1 𝓛 (raw (fact 𝓤 (t ≡ F h x))) (hearsWith S X (pair_row T) F 𝓛 h x t) $ heard ! (t ≡ F h x) (λ e. split ! $ drop ! $
             peeks ! (pair_row T) (Is (pair_row T)) (shows 𝓛 (pair_row T)) t (v ∷ []) (λ is-t. drop ! $
             land ! (from ! (stop !)) (init ! 5 refl ((T.lawful 𝓛).typed t _ is-t).0) $

@@ -36,7 +36,7 @@ use denote.Triple.Clauses.{Ended, Clauses, at_exit, closing, ensured}
 use denote.Triple.Spec.{Meets, triple_of}
 use denote.Triple.Table.{entered, cited}
 use denote.Triple.Walked.{Stays, stay_ref, walk_of, Goes-ref, ends_at, walked, walk_Meets}
-use Rattle.policy_in_place.proofs.ByValue.{byValue, says, ByValue, handed, hands, hears, beside}
+use Rattle.policy_in_place.proofs.ByValue.{by_value, says, ByValue, handed, hands, hears, beside}
 use Rattle.policy_in_place.proofs.Data.{Data, Pair, row, pair_row, pair_ty}
 
 module _ {R S : Data} (T : Pair R S) where
@@ -102,7 +102,7 @@ module _ {R S : Data} (T : Pair R S) where
             assigns ! (of_opd ! (load ! (from ! (hop ! (look ! 9 refl) (stop !))) (look_raw ! 0 refl))) (from ! (stop !)) (init ! 7 refl ((S.lawful 𝓛).typed h _ is-s).0) $
             use0 𝓛 (raw ((ByValue S (pair_row T) F 𝓛).pre (handed S (pair_row T) F 𝓛 h))) (hands S (pair_row T) F 𝓛 h is-s) $
             calls_at ! fm (ByValue S (pair_row T) F 𝓛) known (handed S (pair_row T) F 𝓛 h) (and_then ! (load ! (from ! (stop !)) (look ! 8 refl)) (no_more !)) (λ v.
-            use1 𝓛 (later (some (λ (t : T.D). (‵ ftrue ⊛ ‵ (T.own t (v ∷ []))) ⊛ raw (ensured 𝓛 (byValue S (pair_row T)) (says S (pair_row T) F 𝓛) tt (h, tt) tt t)))) (id⊢ 𝓤 _) $
+            use1 𝓛 (later (some (λ (t : T.D). (‵ ftrue ⊛ ‵ (T.own t (v ∷ []))) ⊛ raw (ensured 𝓛 (by_value S (pair_row T)) (says S (pair_row T) F 𝓛) tt (h, tt) tt t)))) (id⊢ 𝓤 _) $
             await ! tt $ pick ! (λ t.
             split ! $ move ! (1 ∷ []) $ use1 𝓛 (raw (fact 𝓤 (t ≡ F h))) (hears S (pair_row T) F 𝓛 h t) $ heard ! (t ≡ F h) (λ e. split ! $ drop ! $
             peeks ! (pair_row T) (Is (pair_row T)) (shows 𝓛 (pair_row T)) t (v ∷ []) (λ is-t. drop ! $

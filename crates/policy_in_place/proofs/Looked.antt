@@ -34,7 +34,7 @@ use denote.Triple.Clauses.{Ended, Clauses, at_exit, closing, ensured}
 use denote.Triple.Spec.{Meets, triple_of}
 use denote.Triple.Table.{entered, cited}
 use denote.Triple.Walked.{Stays, stay_none_ref, walk_of, Goes-none_ref, ends_at, walked, walk_Meets}
-use Rattle.policy_in_place.proofs.ByValue.{byValue, says, ByValue, handed, hands, hears, beside}
+use Rattle.policy_in_place.proofs.ByValue.{by_value, says, ByValue, handed, hands, hears, beside}
 use Rattle.policy_in_place.proofs.Data.{Data, row}
 
 module _ (S R : Data) where
@@ -102,7 +102,7 @@ module _ (S R : Data) where
             -- [the token; the fractured borrow; true; res; true; _2; …; _1; …; _0; …]: the function by value is called
             use0 𝓛 (raw ((ByValue S (row R) F 𝓛).pre (handed S (row R) F 𝓛 h))) (hands S (row R) F 𝓛 h is-s) $
             calls_at ! fm (ByValue S (row R) F 𝓛) known (handed S (row R) F 𝓛 h) (and_then ! (load ! (from ! (stop !)) (look ! 6 refl)) (no_more !)) (λ v.
-            use1 𝓛 (later (some (λ (r : R.D). (‵ ftrue ⊛ ‵ (R.own r (v ∷ []))) ⊛ raw (ensured 𝓛 (byValue S (row R)) (says S (row R) F 𝓛) tt (h, tt) tt r)))) (id⊢ 𝓤 _) $
+            use1 𝓛 (later (some (λ (r : R.D). (‵ ftrue ⊛ ‵ (R.own r (v ∷ []))) ⊛ raw (ensured 𝓛 (by_value S (row R)) (says S (row R) F 𝓛) tt (h, tt) tt r)))) (id⊢ 𝓤 _) $
             await ! tt $ pick ! (λ r.
             split ! $ move ! (1 ∷ []) $ use1 𝓛 (raw (fact 𝓤 (r ≡ F h))) (hears S (row R) F 𝓛 h r) $ heard ! (r ≡ F h) (λ e. split ! $ drop ! $
             peeks ! (row R) (Is (row R)) (shows 𝓛 (row R)) r (v ∷ []) (λ is-r. drop ! $

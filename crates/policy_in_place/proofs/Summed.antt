@@ -51,7 +51,7 @@ use denote.Triple.Spec.{Meets, triple_of}
 use denote.Triple.Table.{entered, cited}
 use denote.Triple.Walked.{Stays, stay_none, stay_none_slice, walk_of, Goes-none, Goes-none_slice, ends_at, walked, walk_Meets}
 use Rattle.power_policy_service.specs.Provider.{sum_to}
-use Rattle.policy_in_place.proofs.ByValue.{byValue, says, ByValue, handed, hands, hears, beside}
+use Rattle.policy_in_place.proofs.ByValue.{by_value, says, ByValue, handed, hands, hears, beside}
 use Rattle.policy_in_place.proofs.Data.{Data, row}
 use Rattle.policy_in_place.proofs.Figures.{goes_on, ends_there, below_16, within, next_fits, place_fits, figure_fits, sum_fits, sum_grows, total_fits, offset_fits}
 use Rattle.policy_in_place.proofs.Word.{word}
@@ -283,7 +283,7 @@ module _ (S X : Data) where
             use0 𝓛 (raw ((ByValue word usize (min 16) 𝓛).pre (handed word usize (min 16) 𝓛 (length ys)))) (hands word usize (min 16) 𝓛 (length ys) (refl, room.0)) $
             calls_at ! (fm_of 𝓤 H 𝓛.laws 𝓣) (ByValue word usize (min 16) 𝓛) counts (handed word usize (min 16) 𝓛 (length ys)) (and_then ! (load ! (from ! (stop !)) (look ! 13 refl)) (no_more !)) (λ u.
             use1 𝓛 (later (some (λ (m : ℕ). (‵ ftrue ⊛ ‵ (usize.own_val m (u
-            ∷ []))) ⊛ raw (ensured 𝓛 (byValue word usize) (says word usize (min 16) 𝓛) tt (length ys, tt) tt m)))) (id⊢ 𝓤 _) $ await ! tt $ pick ! (λ m.
+            ∷ []))) ⊛ raw (ensured 𝓛 (by_value word usize) (says word usize (min 16) 𝓛) tt (length ys, tt) tt m)))) (id⊢ 𝓤 _) $ await ! tt $ pick ! (λ m.
             split ! $ move ! (1 ∷ []) $ use1 𝓛 (raw (fact 𝓤 (m ≡ n))) (hears word usize (min 16) 𝓛 (length ys) m) $ heard ! (m ≡ n) (λ e. split ! $ drop ! $
             peeks ! usize (Is usize) (shows 𝓛 usize) m (u ∷ []) (λ is_m. drop ! $
             land ! (from ! (stop !)) (init ! 18 refl ((uint_Lawful 𝓛 w64).typed m _ is_m).0) $

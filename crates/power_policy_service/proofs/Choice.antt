@@ -60,21 +60,21 @@ module _ (minimum : OptionMilliwatts) (current : OptionAvailableConsumer) (psus 
   abbrev key : ℕ → ConsumerPowerCapability → ℕ
   key p c = 2 * mw c + bit (is_current current p)
 
-  better-is : (best : OptionAvailableConsumer) (p : ℕ) (o : OptionConsumerPowerCapability) → better_of current best p o ≡ greater offers key best p o
-  better-is OptionAvailableConsumer.None p OptionConsumerPowerCapability.None = refl
-  better-is (OptionAvailableConsumer.Some b) p OptionConsumerPowerCapability.None = refl
-  better-is OptionAvailableConsumer.None p (OptionConsumerPowerCapability.Some c) = refl
-  better-is (OptionAvailableConsumer.Some b) p (OptionConsumerPowerCapability.Some c) =
+  better_is : (best : OptionAvailableConsumer) (p : ℕ) (o : OptionConsumerPowerCapability) → better_of current best p o ≡ greater offers key best p o
+  better_is OptionAvailableConsumer.None p OptionConsumerPowerCapability.None = refl
+  better_is (OptionAvailableConsumer.Some b) p OptionConsumerPowerCapability.None = refl
+  better_is OptionAvailableConsumer.None p (OptionConsumerPowerCapability.Some c) = refl
+  better_is (OptionAvailableConsumer.Some b) p (OptionConsumerPowerCapability.Some c) =
       pairs (mw c) (mw b.consumer_power_capability) (is_current current p) (is_current current b.psu) (available p c) (OptionAvailableConsumer.Some b)
 
-  best-is : (n : ℕ) → best_of minimum current psus n ≡ greatest offers key n
-  best-is zero = refl
-  best-is (suc n) = better-is (best_of minimum current psus n) n (offers n) ∙ ap (λ b. greater offers key b n (offers n)) (best-is n)
+  best_is : (n : ℕ) → best_of minimum current psus n ≡ greatest offers key n
+  best_is zero = refl
+  best_is (suc n) = better_is (best_of minimum current psus n) n (offers n) ∙ ap (λ b. greater offers key b n (offers n)) (best_is n)
 
   -- the earliest with the greatest number is the best, and the other way round
 
-  best-from : (n : ℕ) (c : AvailableConsumer) → Earliest offers key n c → Best minimum current psus n c
-  best-from n c h = record {
+  best_from : (n : ℕ) (c : AvailableConsumer) → Earliest offers key n c → Best minimum current psus n c
+  best_from n c h = record {
     offer = record { registered = h.among; offered = h.offered };
     most = λ p d o. omega (arith, h.most p d o.registered o.offered, bit_most (is_current current c.psu));
     first = λ p d o e. go (is_current current c.psu) refl (is_current current p) refl (ltb p c.psu) refl d o e;
@@ -90,12 +90,12 @@ module _ (minimum : OptionMilliwatts) (current : OptionAvailableConsumer) (psus 
       go false es {p} false et false eu d o e = inr (et, ltb-false p c.psu eu)
 
   -- one port at most is the current one
-  one-current : (c : OptionAvailableConsumer) (p q : ℕ) → is_current c p ≡ true → is_current c q ≡ true → p ≡ q
-  one-current OptionAvailableConsumer.None p q e f = absurd (eqb-false 0 0 (sym e) refl)
-  one-current (OptionAvailableConsumer.Some c) p q e f = sym (eqb-true c.psu p e) ∙ eqb-true c.psu q f
+  one_current : (c : OptionAvailableConsumer) (p q : ℕ) → is_current c p ≡ true → is_current c q ≡ true → p ≡ q
+  one_current OptionAvailableConsumer.None p q e f = absurd (eqb-false 0 0 (sym e) refl)
+  one_current (OptionAvailableConsumer.Some c) p q e f = sym (eqb-true c.psu p e) ∙ eqb-true c.psu q f
 
-  earliest-from : (n : ℕ) (c : AvailableConsumer) → Best minimum current psus n c → Earliest offers key n c
-  earliest-from n c h = record {
+  earliest_from : (n : ℕ) (c : AvailableConsumer) → Best minimum current psus n c → Earliest offers key n c
+  earliest_from n c h = record {
     among = h.offer.registered;
     offered = h.offer.offered;
     most = λ p d l o. at_most p d (record { registered = l; offered = o }) (ltb (mw d) (mw c.consumer_power_capability)) refl;
@@ -113,7 +113,7 @@ module _ (minimum : OptionMilliwatts) (current : OptionAvailableConsumer) (psus 
           (h.first p d o (equal p d o e))
 
       not-current : (p : ℕ) → p < c.psu → is_current current c.psu ≡ true → (t : Bool) → is_current current p ≡ t → is_current current p ≡ false
-      not-current p l f true e = absurd (omega (arith, l, one-current current p c.psu e f))
+      not-current p l f true e = absurd (omega (arith, l, one_current current p c.psu e f))
       not-current p l f false e = e
 
       earlier : (p : ℕ) (d : ConsumerPowerCapability) → p < c.psu → Eligible minimum current psus n p d → (b : Bool) → ltb (mw d) (mw c.consumer_power_capability) ≡ b → key p d < key c.psu c.consumer_power_capability
@@ -123,25 +123,25 @@ module _ (minimum : OptionMilliwatts) (current : OptionAvailableConsumer) (psus 
           (λ f. absurd (omega (arith, l, f.1)))
           (h.first p d o (equal p d o e))
 
-  chosen-from : (n : ℕ) (x : OptionAvailableConsumer) → Found offers key n x → Chosen minimum current psus n x
-  chosen-from n OptionAvailableConsumer.None h = h
-  chosen-from n (OptionAvailableConsumer.Some c) h = best-from n c h
+  chosen_from : (n : ℕ) (x : OptionAvailableConsumer) → Found offers key n x → Chosen minimum current psus n x
+  chosen_from n OptionAvailableConsumer.None h = h
+  chosen_from n (OptionAvailableConsumer.Some c) h = best_from n c h
 
   found_from : (n : ℕ) (x : OptionAvailableConsumer) → Chosen minimum current psus n x → Found offers key n x
   found_from n OptionAvailableConsumer.None h = h
-  found_from n (OptionAvailableConsumer.Some c) h = earliest-from n c h
+  found_from n (OptionAvailableConsumer.Some c) h = earliest_from n c h
 
-  only-found : (n : ℕ) (x y : OptionAvailableConsumer) → Found offers key n x → Found offers key n y → x ≡ y
-  only-found n OptionAvailableConsumer.None OptionAvailableConsumer.None h k = refl
-  only-found n OptionAvailableConsumer.None (OptionAvailableConsumer.Some c) h k = absurd (not_both (h c.psu k.among) k.offered)
-  only-found n (OptionAvailableConsumer.Some b) OptionAvailableConsumer.None h k = absurd (not_both (k b.psu h.among) h.offered)
-  only-found n (OptionAvailableConsumer.Some b) (OptionAvailableConsumer.Some c) h k =
+  only_found : (n : ℕ) (x y : OptionAvailableConsumer) → Found offers key n x → Found offers key n y → x ≡ y
+  only_found n OptionAvailableConsumer.None OptionAvailableConsumer.None h k = refl
+  only_found n OptionAvailableConsumer.None (OptionAvailableConsumer.Some c) h k = absurd (not_both (h c.psu k.among) k.offered)
+  only_found n (OptionAvailableConsumer.Some b) OptionAvailableConsumer.None h k = absurd (not_both (k b.psu h.among) h.offered)
+  only_found n (OptionAvailableConsumer.Some b) (OptionAvailableConsumer.Some c) h k =
       ap OptionAvailableConsumer.Some (only_one offers key n b c h k)
 
   -- what the order of pairs chooses is what demand 2 says
   pub chosen : (n : ℕ) → Chosen minimum current psus n (best_of minimum current psus n)
-  chosen n = rw (best-is n) (chosen-from n (greatest offers key n) (found offers key n))
+  chosen n = rw (best_is n) (chosen_from n (greatest offers key n) (found offers key n))
 
   -- and nothing else is
-  pub only-chosen : (n : ℕ) (x : OptionAvailableConsumer) → Chosen minimum current psus n x → x ≡ best_of minimum current psus n
-  only-chosen n x h = only-found n x (greatest offers key n) (found_from n x h) (found offers key n) ∙ sym (best-is n)
+  pub only_chosen : (n : ℕ) (x : OptionAvailableConsumer) → Chosen minimum current psus n x → x ≡ best_of minimum current psus n
+  only_chosen n x h = only_found n x (greatest offers key n) (found_from n x h) (found offers key n) ∙ sym (best_is n)

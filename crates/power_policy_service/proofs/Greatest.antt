@@ -61,8 +61,8 @@ module _ (offers : ℕ → OptionConsumerPowerCapability) (key : ℕ → Consume
 
   -- from n ports to one more
 
-  still-none : (n : ℕ) → offers n ≡ OptionConsumerPowerCapability.None → Found n OptionAvailableConsumer.None → Found (suc n) OptionAvailableConsumer.None
-  still-none n e h p l = ⊎_elim (h p) (λ q. ap offers q ∙ e) (below_or_last p n l)
+  still_none : (n : ℕ) → offers n ≡ OptionConsumerPowerCapability.None → Found n OptionAvailableConsumer.None → Found (suc n) OptionAvailableConsumer.None
+  still_none n e h p l = ⊎_elim (h p) (λ q. ap offers q ∙ e) (below_or_last p n l)
 
   first_one : (n : ℕ) (c : ConsumerPowerCapability) → offers n ≡ OptionConsumerPowerCapability.Some c → Found n OptionAvailableConsumer.None → Found (suc n) (available n c)
   first_one n c e h = record {
@@ -89,9 +89,9 @@ module _ (offers : ℕ → OptionConsumerPowerCapability) (key : ℕ → Consume
       at_last : (p : ℕ) (d : ConsumerPowerCapability) → offers p ≡ OptionConsumerPowerCapability.Some d → p ≡ n → key p d ≤ key_of b
       at_last p d o q = rw q (last d (ap offers (sym q) ∙ o))
 
-  replaced-by : (n : ℕ) (b : AvailableConsumer) (c : ConsumerPowerCapability) → offers n ≡ OptionConsumerPowerCapability.Some c → Earliest n b → key_of b < key n c →
+  replaced_by : (n : ℕ) (b : AvailableConsumer) (c : ConsumerPowerCapability) → offers n ≡ OptionConsumerPowerCapability.Some c → Earliest n b → key_of b < key n c →
       Earliest (suc n) (record { psu = n; consumer_power_capability = c })
-  replaced-by n b c e h l = record {
+  replaced_by n b c e h l = record {
     among = omega arith;
     offered = e;
     most = λ p d q o. ⊎_elim (λ z. earlier p d z o) (λ z. itself p d o z) (below_or_last p n q);
@@ -110,13 +110,13 @@ module _ (offers : ℕ → OptionConsumerPowerCapability) (key : ℕ → Consume
           rw (q, sym f) (omega arith)
 
   one_more : (n : ℕ) (best : OptionAvailableConsumer) (o : OptionConsumerPowerCapability) → offers n ≡ o → Found n best → Found (suc n) (greater best n o)
-  one_more n OptionAvailableConsumer.None OptionConsumerPowerCapability.None e h = still-none n e h
+  one_more n OptionAvailableConsumer.None OptionConsumerPowerCapability.None e h = still_none n e h
   one_more n (OptionAvailableConsumer.Some b) OptionConsumerPowerCapability.None e h = kept n b h (λ d o. absurd (not_both e o))
   one_more n OptionAvailableConsumer.None (OptionConsumerPowerCapability.Some c) e h = first_one n c e h
   one_more n (OptionAvailableConsumer.Some b) (OptionConsumerPowerCapability.Some c) e h = go (ltb (key_of b) (key n c)) refl
     where
       go : (t : Bool) → ltb (key_of b) (key n c) ≡ t → Found (suc n) (cond t (available n c) (OptionAvailableConsumer.Some b))
-      go true q = replaced-by n b c e h (ltb-true (key_of b) (key n c) q)
+      go true q = replaced_by n b c e h (ltb-true (key_of b) (key n c) q)
       go false q = kept n b h (λ d o. subst (λ z. key n z ≤ key_of b) (one_offer e o) (ltb-false (key_of b) (key n c) q))
 
   pub found : (n : ℕ) → Found n (greatest n)

@@ -20,7 +20,7 @@ use Rattle.abstract_calls.specs.Lent.{take_to, page_call}
 use Rattle.abstract_calls.specs.Numbers.{refused_number, consumer_number}
 use Rattle.abstract_calls.proofs.OneToOne.{one_to_one}
 use Rattle.abstract_calls.proofs.Packets.{read_refuses}
-use Rattle.abstract_calls.proofs.Pages.{page-refuses, page-back}
+use Rattle.abstract_calls.proofs.Pages.{page_refuses, page_back}
 use Rattle.abstract_calls.proofs.Results.{packed_low, done_low}
 use Rattle.desk_follower.specs.Follower.{state_of, consumer_of}
 use Rattle.desk_follower.specs.declared.Follower.{Follower}
@@ -76,7 +76,7 @@ refuses_on true f b (take_packet y) =
 refuses_on true f b read_shown = over 21 _ [] refl (free (shown_as (state_of f) f.shown) 5 (shown_low (state_of f) f.shown) (λ z. omega (arith, z)))
 refuses_on true f b read_consumer = over 21 _ [] refl (free (consumer_number (consumer_of f.shown)) 6 (one_to_one.outcomes.consumer (consumer_of f.shown)) (λ z. omega (arith, z)))
 refuses_on true f b read_tracked = over 21 _ [] refl (free (tracked_in f.shown) 7 (tracked_low f.shown) (λ z. omega (arith, z)))
-refuses_on true f b (write_page buffer) = over 21 _ _ refl (page-refuses (page_bytes (page_for f)) buffer)
+refuses_on true f b (write_page buffer) = over 21 _ _ refl (page_refuses (page_bytes (page_for f)) buffer)
 refuses_on false f b (take_packet y) = held _ refl
 refuses_on false f b read_shown = held [] refl
 refuses_on false f b read_consumer = held [] refl
@@ -98,7 +98,7 @@ take_back false f b y k = refl
 
 write_back : (ok : Bool) (f : Follower) (buffer : List ℕ) → (write_page_call (record { ok = ok; follower = f }) buffer).number % 256 ≡ 0
     → (write_page_call (record { ok = ok; follower = f }) buffer).bytes ≡ buffer
-write_back true f buffer k = page-back (page_bytes (page_for f)) buffer k
+write_back true f buffer k = page_back (page_bytes (page_for f)) buffer k
 write_back false f buffer k = refl
 
 pub desk_turned_back : (b : List ℕ) (c : DeskCall) → desk_returned functions b c % 256 ≡ 0 →

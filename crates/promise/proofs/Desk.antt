@@ -35,17 +35,17 @@ use Rattle.abstract_calls.specs.Definition.{Refuses, followed, desk_return_to, d
 use Rattle.abstract_calls.specs.DeskCall.{DeskCall, take_packet, read_shown, read_consumer, read_tracked, write_page, read_conditions, shown_by, consumer_by, tracked_by}
 use Rattle.abstract_calls.proofs.OneToOne.{one_to_one}
 use Rattle.abstract_calls.proofs.Packets.{read_refuses}
-use Rattle.abstract_calls.proofs.Pages.{page-refuses, page-back}
+use Rattle.abstract_calls.proofs.Pages.{page_refuses, page_back}
 use Rattle.abstract_calls.proofs.Results.{packed_low, done_low}
 use Rattle.bytes_follower_image.specs.Image.{follower_bytes, follower_from}
 use Rattle.bytes_follower_image.specs.declared.ReadFollower.{ReadFollower}
 use Rattle.bytes_follower_image.proofs.OneImage.{follower_length_lem, follower_bytes_lem}
 use Rattle.bytes_calls.specs.Calls.{taken_call, take_call, reader_call, shown_as, tracked_in}
 use Rattle.abi_functions.specs.Ours.{functions}
-use Rattle.promise_calls.proofs.Takes.{each_keeps, desk-is, desk-fits, desk-read}
+use Rattle.promise_calls.proofs.Takes.{each_keeps, desk_is, desk_fits, desk_read}
 use Rattle.promise.specs.Promise.{Follows, FollowerStarts}
 use Rattle.promise.specs.Runs.{Says}
-use Rattle.promise.proofs.Pages.{page-is, page-says}
+use Rattle.promise.proofs.Pages.{page_is, page_says}
 
 pub taken_number : (b : List ℕ) (f : Follower) (y : ReadPacket) → (taken_call b f y).number ≡ take_to y
 taken_number b f (ReadPacket.Refused n) = refl
@@ -53,10 +53,10 @@ taken_number b f (ReadPacket.Packet p) = refl
 
 module _ (x : List ℕ) (e : length x ≡ follower_length) (l : List DeskCall) (a : DeskBytes l) where
   read : follower_from (desk functions x l) ≡ record { ok = true; follower = follower_after (packets_of l) }
-  read = desk-read x e l (each_keeps (packets_of l) a)
+  read = desk_read x e l (each_keeps (packets_of l) a)
 
   size : length (desk functions x l) ≡ follower_length
-  size = ap length (desk-is x e l (each_keeps (packets_of l) a)) ∙ follower_length_lem (follower_after (packets_of l))
+  size = ap length (desk_is x e l (each_keeps (packets_of l) a)) ∙ follower_length_lem (follower_after (packets_of l))
 
   number : (y : List ℕ) → (take_call (desk functions x l) y).number ≡ take_to (read_packet y)
   number y =
@@ -70,13 +70,13 @@ module _ (x : List ℕ) (e : length x ≡ follower_length) (l : List DeskCall) (
 
   page_same : (buffer : List ℕ) → functions.write_page (desk functions x l) buffer ≡ page_call (page_of (followed l)) buffer
   page_same buffer =
-      page-is (desk functions x l) (follower_after (packets_of l)) read (desk-fits x e l (each_keeps (packets_of l) a)) buffer
+      page_is (desk functions x l) (follower_after (packets_of l)) read (desk_fits x e l (each_keeps (packets_of l) a)) buffer
       ∙ ap (λ (p : paper.Follower). page_call (page_of p) buffer) (alike.takes_alike (packets_of l) a)
 
-  page-told : Says functions (desk functions x l) (entries_of (followed l))
-  page-told =
+  page_told : Says functions (desk functions x l) (entries_of (followed l))
+  page_told =
       subst (λ (p : paper.Follower). Says functions (desk functions x l) (entries_of p)) (alike.takes_alike (packets_of l) a)
-      (page-says (desk functions x l) (follower_after (packets_of l)) read (desk-fits x e l (each_keeps (packets_of l) a)))
+      (page_says (desk functions x l) (follower_after (packets_of l)) read (desk_fits x e l (each_keeps (packets_of l) a)))
 
   told : (t : Follower → ℕ) → reader_call (follower_from (desk functions x l)) t ≡ t (follower_after (packets_of l))
   told t = ap (λ (r : ReadFollower). reader_call r t) read
@@ -99,8 +99,8 @@ module _ (l : List (List ℕ)) (a : EachBytes l) where
   same : seen (follower_after l) ≡ paper_after l
   same = alike.takes_alike l a
 
-  shown-same : shown_as (state_of (follower_after l)) (follower_after l).shown ≡ shown_by (paper_after l)
-  shown-same =
+  shown_same : shown_as (state_of (follower_after l)) (follower_after l).shown ≡ shown_by (paper_after l)
+  shown_same =
       shown_by_lem (follower_after l).shown (follower_after l).held (state_of (follower_after l)) (alike.takes_state l a ∙ ap (λ (p : paper.Follower). paper.state p) (sym same))
       ∙ ap shown_by same
 
@@ -130,17 +130,17 @@ tracked_low (paper.showing n d l) = one_to_one.outcomes.tracked d.providers
 module _ (x : List ℕ) (e : length x ≡ follower_length) (l : List DeskCall) (a : DeskBytes l) where
   returns : (c : DeskCall) → desk_returned functions (desk functions x l) c ≡ desk_return_to (followed l) c
   returns (take_packet y) = number x e l a y
-  returns read_shown = told x e l a (λ f. shown_as (state_of f) f.shown) ∙ shown-same (packets_of l) a
+  returns read_shown = told x e l a (λ f. shown_as (state_of f) f.shown) ∙ shown_same (packets_of l) a
   returns read_consumer = told x e l a (λ f. consumer_number (consumer_of f.shown)) ∙ consumer_same (packets_of l) a
   returns read_tracked = told x e l a (λ f. tracked_in f.shown) ∙ tracked_same (packets_of l) a
   returns (write_page buffer) = ap (λ (c : Called). c.number) (page_same x e l a buffer)
 
-  told-refuses : (c : DeskCall) → Refuses (desk_conditions_to (followed l) c) (desk_return_to (followed l) c)
-  told-refuses (take_packet y) = read_refuses y (read_packet y) refl
-  told-refuses read_shown = free (shown_by (followed l)) 5 (shown_low (followed l)) (λ z. omega (arith, z))
-  told-refuses read_consumer = free (consumer_by (followed l)) 6 (consumer_low (followed l)) (λ z. omega (arith, z))
-  told-refuses read_tracked = free (tracked_by (followed l)) 7 (tracked_low (followed l)) (λ z. omega (arith, z))
-  told-refuses (write_page buffer) = page-refuses (page_of (followed l)) buffer
+  told_refuses : (c : DeskCall) → Refuses (desk_conditions_to (followed l) c) (desk_return_to (followed l) c)
+  told_refuses (take_packet y) = read_refuses y (read_packet y) refl
+  told_refuses read_shown = free (shown_by (followed l)) 5 (shown_low (followed l)) (λ z. omega (arith, z))
+  told_refuses read_consumer = free (consumer_by (followed l)) 6 (consumer_low (followed l)) (λ z. omega (arith, z))
+  told_refuses read_tracked = free (tracked_by (followed l)) 7 (tracked_low (followed l)) (λ z. omega (arith, z))
+  told_refuses (write_page buffer) = page_refuses (page_of (followed l)) buffer
 
   turned_back : (c : DeskCall) → desk_returned functions (desk functions x l) c % 256 ≡ 0 →
       (desk_after functions (desk functions x l) c ≡ desk functions x l) × (desk_buffer_after functions (desk functions x l) c ≡ desk_buffer_in c)
@@ -157,7 +157,7 @@ module _ (x : List ℕ) (e : length x ≡ follower_length) (l : List DeskCall) (
   turned_back read_tracked k = (refl, refl)
   turned_back (write_page buffer) k =
       let e = page_same x e l a buffer in
-      (refl, ap (λ (c : Called). c.bytes) e ∙ page-back (page_of (followed l)) buffer (ap (λ (c : Called). c.number % 256) (sym e) ∙ k))
+      (refl, ap (λ (c : Called). c.bytes) e ∙ page_back (page_of (followed l)) buffer (ap (λ (c : Called). c.number % 256) (sym e) ∙ k))
 
   buffers : (c : DeskCall) → desk_buffer_after functions (desk functions x l) c ≡ desk_buffer_to (followed l) c
   buffers (take_packet y) = refl
@@ -172,17 +172,17 @@ ours_follows x e = record {
     shown = told x e [] tt (λ f. shown_as (state_of f) f.shown);
     consumer = told x e [] tt (λ f. consumer_number (consumer_of f.shown));
     tracked = told x e [] tt (λ f. tracked_in f.shown);
-    page = page-told x e [] tt;
+    page = page_told x e [] tt;
   };
-  refuses = λ l c a. subst (λ (n : ℕ). Refuses (desk_conditions_to (followed l) c) n) (sym (returns x e l a c)) (told-refuses x e l a c);
+  refuses = λ l c a. subst (λ (n : ℕ). Refuses (desk_conditions_to (followed l) c) n) (sym (returns x e l a c)) (told_refuses x e l a c);
   turned_back = λ l c a k. turned_back x e l a c k;
   returns = λ l c a. returns x e l a c;
   buffers = λ l c a. buffers x e l a c;
-  page = λ l a. page-told x e l a;
+  page = λ l a. page_told x e l a;
   size = λ l a. size x e l a;
   bytes = λ l a.
-      subst AllBytes (sym (desk-is x e l (each_keeps (packets_of l) a)))
-      (follower_bytes_lem (follower_after (packets_of l)) (desk-fits x e l (each_keeps (packets_of l) a)));
+      subst AllBytes (sym (desk_is x e l (each_keeps (packets_of l) a)))
+      (follower_bytes_lem (follower_after (packets_of l)) (desk_fits x e l (each_keeps (packets_of l) a)));
 }
 
 pub ours_follower_starts : (x : List ℕ) → FollowerStarts functions x

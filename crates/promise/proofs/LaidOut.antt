@@ -38,30 +38,30 @@ use Rattle.promise_invariant.proofs.Bound.{good_orders, good_rest}
 use Rattle.abstract_calls.specs.Lent.{page_call}
 use Rattle.desk_report.specs.Page.{page_bytes, page_for}
 use Rattle.promise.proofs.AnyBytes.{desk_refuses, desk_turned_back, readers_on}
-use Rattle.promise.proofs.Pages.{page-is, page-says}
+use Rattle.promise.proofs.Pages.{page_is, page_says}
 use Rattle.bytes_calls.specs.Calls.{taken_call, shown_as, tracked_in}
 use Rattle.abi_functions.specs.Ours.{functions}
-use Rattle.promise_calls.proofs.Takes.{each_keeps, desk-read}
+use Rattle.promise_calls.proofs.Takes.{each_keeps, desk_read}
 use Rattle.promise_calls.proofs.Images.{image_read}
 use Rattle.promise_calls.proofs.First.{call_refuses}
 use Rattle.promise_calls.proofs.Turned.{call_back}
-use Rattle.promise_calls.proofs.Reached.{reached, reached-good, reached-equal, reached-image}
+use Rattle.promise_calls.proofs.Reached.{reached, reached_good, reached_equal, reached_image}
 use Rattle.promise.specs.Layout.{Layout}
 use Rattle.promise.specs.Promise.{start_refused, registers}
 use Rattle.promise.proofs.Promised.{started_good, started_demands}
-use Rattle.promise.proofs.Starts.{start-leaves}
+use Rattle.promise.proofs.Starts.{start_leaves}
 
 held : (image : List ℕ) (a : Arguments) → start_refused image a ≡ 0 → (c : Config) → config_of a ≡ OptionConfig.Some c → (l : List ByteCall) → CallsBytes l →
     (s : Service) × (service_from (images functions (functions.start image a).bytes l) ≡ ReadService.Read s) × Equal s (defined (registers a c) l)
 held image a q c e l b =
-    let z = start-leaves image a.ports a.chargers (config_of a) c e q in
+    let z = start_leaves image a.ports a.chargers (config_of a) c e q in
     let s : Service = fresh_service c a.ports a.chargers in
     let good = started_good a s z.service in
     let demands = started_demands a s z.service in (
       reached s l,
       ap (λ (i : List ℕ). service_from (images functions i l)) z.bytes
-          ∙ (ap service_from (sym (reached-image s good demands l b)) ∙ image_read (reached s l) (reached-good s good demands l b)),
-      reached-equal s good demands l b,
+          ∙ (ap service_from (sym (reached_image s good demands l b)) ∙ image_read (reached s l) (reached_good s good demands l b)),
+      reached_equal s good demands l b,
     )
 
 accepted_good : (b : List ℕ) (s : Service) → AllBytes b → service_from b ≡ ReadService.Read s → Good s
@@ -96,7 +96,7 @@ laid_out = record {
     λ z. ap follower_from (sym z.0) ∙ follower_read_write f z.1,
   );
   holds = held;
-  follower_holds = λ x l e a. desk-read x e l (each_keeps (packets_of l) a);
+  follower_holds = λ x l e a. desk_read x e l (each_keeps (packets_of l) a);
   bounded = λ b s h e.
       let z = accepted_good b s h e in
       (good_orders s z, good_rest s z);
@@ -105,8 +105,8 @@ laid_out = record {
   desk_refuses = desk_refuses;
   desk_turned_back = desk_turned_back;
   readers_on = λ b f h e. readers_on b f e (follower_read_fits b f h e);
-  page_on = λ b buffer f h e. page-is b f e (follower_read_fits b f h e) buffer;
-  page_read = λ b f h e. page-says b f e (follower_read_fits b f h e);
+  page_on = λ b buffer f h e. page_is b f e (follower_read_fits b f h e) buffer;
+  page_read = λ b f h e. page_says b f e (follower_read_fits b f h e);
   refuses = call_refuses;
   turned_back = call_back;
   packet = λ y p h. (

@@ -49,8 +49,8 @@ use Rattle.abstract_page.specs.Page.{entries_of}
 use Rattle.promise_link.specs.Alike.{held_from, seen_at, seen}
 use Rattle.promise_link.proofs.Alike.{alike}
 use Rattle.abstract_desk.specs.Follower as paper
-use Rattle.promise.proofs.Pages.{page-says, shown_either}
-use Rattle.promise_calls.proofs.Takes.{AllKeep, all_keep, desk-fits, desk-read}
+use Rattle.promise.proofs.Pages.{page_says, shown_either}
+use Rattle.promise_calls.proofs.Takes.{AllKeep, all_keep, desk_fits, desk_read}
 use Rattle.promise_calls.proofs.Written.{Sent, bytes_left, packet-sent, picture-sent}
 use Rattle.promise.specs.Runs.{PacketOf, PictureOf, Handed, packet, picture, turned_back, AllHanded, In, Comes, NothingAbove, NoEventAbove, Says, Lost, Shows}
 use Rattle.promise.specs.Promise.{Link}
@@ -91,8 +91,8 @@ module _ (s : Service) (good : Good s) (demands : run.Demands s) (calls : List B
     number : event.number ≡ n
     answer : event.answer ≡ answer_byte (defined g w.before).answer
 
-  event-of : (n : ℕ) (y : List ℕ) (w : PacketOf functions image g calls n y) → Event n y w
-  event-of n y w =
+  event_of : (n : ℕ) (y : List ℕ) (w : PacketOf functions image g calls n y) → Event n y w
+  event_of n y w =
       let b : CallsBytes w.before = bytes_left w.before (write_packet w.buffer ∷ w.rest) (subst CallsBytes w.among bytes) in
       let z = packet-sent s good demands calls on w.before w.rest b w.buffer y w.among w.writes in
       let k : z.0 ≡ packet_of (defined g w.before) = packet_is (defined g w.before) z.0 z.1 in
@@ -115,20 +115,20 @@ module _ (s : Service) (good : Good s) (demands : run.Demands s) (calls : List B
 
   handed : (y : List ℕ) → Handed functions image g calls y → taken.Carried source y
   handed y (packet n w) =
-      let z = event-of n y w in
+      let z = event_of n y w in
       taken.copy (Packet.Event z.event) z.sent.written z.sent.bytes
   handed y (picture n w) =
       let z = view_of n y w in
       taken.copy (Packet.Picture z.view) z.sent.written z.sent.bytes
   handed y (turned_back n e) = taken.turned_back n e
 
-  all-handed : (l : List (List ℕ)) → AllHanded functions image g calls l → taken.AllCarried source l
-  all-handed [] q = tt
-  all-handed (y ∷ l) q = (handed y q.0, all-handed l q.1)
+  all_handed : (l : List (List ℕ)) → AllHanded functions image g calls l → taken.AllCarried source l
+  all_handed [] q = tt
+  all_handed (y ∷ l) q = (handed y q.0, all_handed l q.1)
 
-  handed-left : (l m : List (List ℕ)) → AllHanded functions image g calls (l ++ m) → AllHanded functions image g calls l
-  handed-left [] m q = tt
-  handed-left (y ∷ l) m q = (q.0, handed-left l m q.1)
+  handed_left : (l m : List (List ℕ)) → AllHanded functions image g calls (l ++ m) → AllHanded functions image g calls l
+  handed_left [] m q = tt
+  handed_left (y ∷ l) m q = (q.0, handed_left l m q.1)
 
   and_one : (l : List (List ℕ)) (y : List ℕ) → AllHanded functions image g calls l → Handed functions image g calls y → AllHanded functions image g calls (l ++ (y ∷ []))
   and_one [] y q r = (r, tt)
@@ -153,7 +153,7 @@ module _ (s : Service) (good : Good s) (demands : run.Demands s) (calls : List B
   comes : (n k : ℕ) (l : List (List ℕ)) → Comes functions image g calls n k l → link.EventsCome n k l
   comes n k l c j a b =
       let x = c j a b in
-      let z = event-of j x.0 x.2.0 in
+      let z = event_of j x.0 x.2.0 in
       (z.event, met x.0 (Packet.Event z.event) l z.sent.read x.1, z.number, z.answer ∙ ap answer_byte x.2.1)
 
   -- of what is met, whichever it is, the run has a packet or picture with that number
@@ -165,46 +165,46 @@ module _ (s : Service) (good : Good s) (demands : run.Demands s) (calls : List B
     where
       go : (y : List ℕ) → In functions image g calls y l → read_packet y ≡ ReadPacket.Packet p → Handed functions image g calls y → number_in p ≤ m
       go y j r (packet n w) =
-          let z = event-of n y w in
+          let z = event_of n y w in
           subst (λ (k : ℕ). k ≤ m) (sym z.number ∙ ap number_in (one_packet z.sent.read r)) (c n y j (inl w))
       go y j r (picture n w) =
           let z = view_of n y w in
           subst (λ (k : ℕ). k ≤ m) (sym z.number ∙ ap number_in (one_packet z.sent.read r)) (c n y j (inr w))
       go y j r (turned_back n e) = absurd (subst IsRead (sym r ∙ e) tt)
 
-  no-event-above : (m : ℕ) (l : List (List ℕ)) → AllHanded functions image g calls l → NoEventAbove functions image g calls m l → link.NoLower m l
-  no-event-above m l q c e i =
+  no_event_above : (m : ℕ) (l : List (List ℕ)) → AllHanded functions image g calls l → NoEventAbove functions image g calls m l → link.NoLower m l
+  no_event_above m l q c e i =
       let x = among (Packet.Event e) l i in
       go x.0 x.1 x.2 (hands x.0 l q x.1)
     where
       go : (y : List ℕ) → In functions image g calls y l → read_packet y ≡ ReadPacket.Packet (Packet.Event e) → Handed functions image g calls y → e.number ≤ m
       go y j r (packet n w) =
-          let z = event-of n y w in
+          let z = event_of n y w in
           subst (λ (k : ℕ). k ≤ m) (sym z.number ∙ ap number_in (one_packet z.sent.read r)) (c n y j w)
       go y j r (picture n w) = absurd (subst IsEvent (sym (one_packet (view_of n y w).sent.read r)) tt)
       go y j r (turned_back n t) = absurd (subst IsRead (sym r ∙ t) tt)
 
   no_lower : (m : ℕ) (l : List (List ℕ)) → link.NoLower m l → NoEventAbove functions image g calls m l
   no_lower m l c n y i w =
-      let z = event-of n y w in
+      let z = event_of n y w in
       subst (λ (k : ℕ). k ≤ m) z.number (c z.event (met y (Packet.Event z.event) l z.sent.read i))
 
   -- what the readers return of the follower after these calls
 
   module _ (x : List ℕ) (size : length x ≡ follower_length) (l : List DeskCall) (q : AllHanded functions image g calls (packets_of l)) where
     keep : AllKeep (packets_of l)
-    keep = all_keep source (packets_of l) (all-handed (packets_of l) q)
+    keep = all_keep source (packets_of l) (all_handed (packets_of l) q)
 
     told : (t : Follower → Shown → ℕ) (u : Shown) → (follower_after (packets_of l)).shown ≡ u → reader_call (follower_from (desk functions x l)) (λ f. t f f.shown) ≡ t (follower_after (packets_of l)) u
-    told t u e = ap (λ (r : ReadFollower). reader_call r (λ f. t f f.shown)) (desk-read x size l keep) ∙ ap (t (follower_after (packets_of l))) e
+    told t u e = ap (λ (r : ReadFollower). reader_call r (λ f. t f f.shown)) (desk_read x size l keep) ∙ ap (t (follower_after (packets_of l))) e
 
     says : (u : Shown) → (follower_after (packets_of l)).shown ≡ u → Says functions (desk functions x l) (entries_of (seen_at u (follower_after (packets_of l)).held))
     says u e =
         subst (λ (v : Shown). Says functions (desk functions x l) (entries_of (seen_at v (follower_after (packets_of l)).held))) e
-        (page-says (desk functions x l) (follower_after (packets_of l)) (desk-read x size l keep) (desk-fits x size l keep))
+        (page_says (desk functions x l) (follower_after (packets_of l)) (desk_read x size l keep) (desk_fits x size l keep))
 
     state-is : state_of (follower_after (packets_of l)) ≡ paper.state (seen (follower_after (packets_of l)))
-    state-is = alike.state (follower_after (packets_of l)) (fits (follower_after (packets_of l)) (desk-fits x size l keep)).formed
+    state-is = alike.state (follower_after (packets_of l)) (fits (follower_after (packets_of l)) (desk_fits x size l keep)).formed
 
     lost-by : taken.FollowerLost (follower_after (packets_of l)) → Lost functions (desk functions x l)
     lost-by z = record {
@@ -216,7 +216,7 @@ module _ (s : Service) (good : Good s) (demands : run.Demands s) (calls : List B
 
     small : (n : ℕ) (d : Display) → taken.FollowerShows (follower_after (packets_of l)) n d → d.unconstrained.available ≤ 16
     small n d e =
-        let k : picture_fits (record { number = n; display = d }) ≡ true = subst (λ (u : Shown). shown_fits u ≡ true) e (fits (follower_after (packets_of l)) (desk-fits x size l keep)).shown in
+        let k : picture_fits (record { number = n; display = d }) ≡ true = subst (λ (u : Shown). shown_fits u ≡ true) e (fits (follower_after (packets_of l)) (desk_fits x size l keep)).shown in
         (picture_parts (record { number = n; display = d }) k).available
 
     shows-by : (n : ℕ) (d : Display) → taken.FollowerShows (follower_after (packets_of l)) n d → Shows functions (desk functions x l) n d
@@ -233,10 +233,10 @@ module _ (s : Service) (good : Good s) (demands : run.Demands s) (calls : List B
     -- lost or shown, it is the follower that is: it can be nothing else
 
     is : taken.FollowerLost (follower_after (packets_of l)) ⊎ ((n : ℕ) × source.Closed n × taken.FollowerShows (follower_after (packets_of l)) n (source.held n))
-    is = on.demand.a (packets_of l) (all-handed (packets_of l) q)
+    is = on.demand.a (packets_of l) (all_handed (packets_of l) q)
 
-    by-lost : Lost functions (desk functions x l) → taken.FollowerLost (follower_after (packets_of l))
-    by-lost z =
+    by_lost : Lost functions (desk functions x l) → taken.FollowerLost (follower_after (packets_of l))
+    by_lost z =
         ⊎_elim (λ y. y)
         (λ y. absurd (not_lost functions (desk functions x l) y.0 (source.held y.0) (shows-by y.0 (source.held y.0) y.2).shown z.shown))
         is
@@ -266,8 +266,8 @@ module _ (s : Service) (good : Good s) (demands : run.Demands s) (calls : List B
         let both : AllHanded functions image g calls (packets_of before ++ packets_of later) = subst (λ (l : List (List ℕ)). AllHanded functions image g calls l) e q in
         shows_at x size (before ++ later) q (n + k)
         (subst (λ (l : List (List ℕ)). taken.FollowerShows (follower_after l) (n + k) (source.held (n + k))) (sym e)
-        (on.demand.b (packets_of before) (packets_of later) n k (source.held n) (all-handed (packets_of before ++ packets_of later) both)
-        (by-shows x size before (handed-left (packets_of before) (packets_of later) both) n (at n) w) le
+        (on.demand.b (packets_of before) (packets_of later) n k (source.held n) (all_handed (packets_of before ++ packets_of later) both)
+        (by-shows x size before (handed_left (packets_of before) (packets_of later) both) n (at n) w) le
         (comes n k (packets_of later) c)
         (nothing_above (n + k) (packets_of before ++ packets_of later) both (subst (λ (l : List (List ℕ)). NothingAbove functions image g calls (n + k) l) e a))))
 
@@ -290,7 +290,7 @@ module _ (s : Service) (good : Good s) (demands : run.Demands s) (calls : List B
       λ k.
           shows_at x size after u n
           (subst (λ (l : List (List ℕ)). taken.FollowerShows (follower_after l) n (source.held n)) (sym (one_more before y))
-          (to (z.0 (subst (λ (m : ℕ). link.NoLower m met-before) (sym v.number) (no-event-above n met-before q k))))),
+          (to (z.0 (subst (λ (m : ℕ). link.NoLower m met-before) (sym v.number) (no_event_above n met-before q k))))),
     )
       where
         met-before : List (List ℕ)
@@ -310,7 +310,7 @@ module _ (s : Service) (good : Good s) (demands : run.Demands s) (calls : List B
 
         z : (link.NoLower v.view.number (packets_of before) → On (packet_bytes (Packet.Picture v.view)) v.view.number v.view.display)
             × (On (packet_bytes (Packet.Picture v.view)) v.view.number v.view.display → link.NoLower v.view.number (packets_of before))
-        z = on.demand.c (packets_of before) v.view (all-handed (packets_of before) q) v.sent.written (by-lost x size before q lost)
+        z = on.demand.c (packets_of before) v.view (all_handed (packets_of before) q) v.sent.written (by_lost x size before q lost)
 
         -- the bytes handed over are the picture's, its number is n and its display what was held there
         to : On (packet_bytes (Packet.Picture v.view)) v.view.number v.view.display → On y n (source.held n)
@@ -331,10 +331,10 @@ module _ (s : Service) (good : Good s) (demands : run.Demands s) (calls : List B
     stays_lost before y q h lost k =
         lost-by x size (before ++ (take_packet y ∷ [])) (handed-more before y q h)
         (subst (λ (l : List (List ℕ)). taken.FollowerLost (follower_after l)) (sym (one_more before y))
-        (on.demand.d (packets_of before) y (all-handed (packets_of before) q) (handed y h) (by-lost x size before q lost) (go h)))
+        (on.demand.d (packets_of before) y (all_handed (packets_of before) q) (handed y h) (by_lost x size before q lost) (go h)))
       where
         go : Handed functions image g calls y → (p : Picture) → read_packet y ≡ ReadPacket.Packet (Packet.Picture p) → link.NoLower p.number (packets_of before) → ⊥
-        go (packet n w) p r c = absurd (subst IsEvent (one_packet (event-of n y w).sent.read r) tt)
+        go (packet n w) p r c = absurd (subst IsEvent (one_packet (event_of n y w).sent.read r) tt)
         go (picture n w) p r c =
             let v = view_of n y w in
             let e : v.view ≡ p = same_picture v.view p (one_packet v.sent.read r) in

@@ -80,8 +80,8 @@ module _ (f g : Functions) (p : Promise f) (q : Promise g) where
         at_g = refl;
       }
 
-  fresh-desk : (x y : List ℕ) → length x ≡ follower_length → length y ≡ follower_length → AlikeDesk (f.follower_start x).bytes (g.follower_start y).bytes
-  fresh-desk x y h k =
+  fresh_desk : (x y : List ℕ) → length x ≡ follower_length → length y ≡ follower_length → AlikeDesk (f.follower_start x).bytes (g.follower_start y).bytes
+  fresh_desk x y h k =
       record { lent-f = x; lent-g = y; size-f = h; size-g = k; calls = []; each = tt; at_f = refl; at_g = refl }
 
   module _ (b c : List ℕ) (s : Alike b c) where
@@ -95,8 +95,8 @@ module _ (f g : Functions) (p : Promise f) (q : Promise g) where
     same-refusal a =
         ap (λ (n : ℕ). first_refused (start_refusals (config_of a) a.ports a.chargers ++ ((not (eqb n service_length), 21) ∷ []))) (length-f ∙ sym length-g)
 
-    start-number : (a : Arguments) → (f.start b a).number ≡ (g.start c a).number
-    start-number a = (p.start b a).number ∙ (ap done_or (same-refusal a) ∙ sym (q.start c a).number)
+    start_number : (a : Arguments) → (f.start b a).number ≡ (g.start c a).number
+    start_number a = (p.start b a).number ∙ (ap done_or (same-refusal a) ∙ sym (q.start c a).number)
 
     start-alike : (a : Arguments) → Alike (f.start b a).bytes (g.start c a).bytes
     start-alike a = go (eqb (start_refused b a) 0) refl
@@ -167,12 +167,12 @@ module _ (f g : Functions) (p : Promise f) (q : Promise g) where
   alike : (l : List Call) (b c x y : List ℕ) → OfBytes l → Alike b c → AlikeDesk x y → trace f b x l ≡ trace g c y l
   alike [] b c x y h s t = refl
   alike (start a ∷ l) b c x y h s t =
-      two _ _ _ _ _ _ (start-number b c s a) refl (alike l (f.start b a).bytes (g.start c a).bytes x y h (start-alike b c s a) t)
+      two _ _ _ _ _ _ (start_number b c s a) refl (alike l (f.start b a).bytes (g.start c a).bytes x y h (start-alike b c s a) t)
   alike (call d ∷ l) b c x y h s t =
       two _ _ _ _ _ _ (call-number b c s d) (call_buffer b c s d) (alike l (image_after f b d) (image_after g c d) x y h.1 (call-alike b c s d h.0) t)
   alike (follower_start ∷ l) b c x y h s t =
       two _ _ _ _ _ _ (desk-start x y t) refl
-      (alike l b c (f.follower_start x).bytes (g.follower_start y).bytes h s (fresh-desk x y (size-x x y t) (size-y x y t)))
+      (alike l b c (f.follower_start x).bytes (g.follower_start y).bytes h s (fresh_desk x y (size-x x y t) (size-y x y t)))
   alike (desk d ∷ l) b c x y h s t =
       two _ _ _ _ _ _ (desk-number x y t d) (desk-buffer x y t d) (alike l b c (desk_after f x d) (desk_after g y d) h.1 s (desk-alike x y t d h.0))
 
@@ -201,7 +201,7 @@ module _ (f g : Functions) (p : Promise f) (q : Promise g) where
     traces = λ image x a l h e k.
         let r = done_zero (start_refused image a) (sym (p.start image a).number ∙ e) in
         alike l (f.start image a).bytes (g.start image a).bytes (f.follower_start x).bytes (g.follower_start x).bytes h
-        (fresh image image a r r) (fresh-desk x x (sized x k) (sized x k));
+        (fresh image image a r r) (fresh_desk x x (sized x k) (sized x k));
     service_other = λ b c e.
         let y = p.other_length.service b c e in
         let z = q.other_length.service b c e in

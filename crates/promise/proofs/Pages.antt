@@ -45,14 +45,14 @@ fits_by (Shown.Lost floor) h e = tt
 fits_by (Shown.Picture s) h e = e
 
 module _ (b : List ℕ) (f : Follower) (r : follower_from b ≡ record { ok = true; follower = f }) (i : image_fits f ≡ true) where
-  pub page-is : (buffer : List ℕ) → functions.write_page b buffer ≡ page_call (page_of (seen f)) buffer
-  page-is buffer =
+  pub page_is : (buffer : List ℕ) → functions.write_page b buffer ≡ page_call (page_of (seen f)) buffer
+  page_is buffer =
       ap (λ (x : ReadFollower). cond {A = Called} x.ok (page_call (page_bytes (page_for x.follower)) buffer) (refused_call 21 buffer)) r
       ∙ ap (λ (y : List ℕ). page_call y buffer) (page_by f.shown f.held (state_of f) (alike.state f (fits f i).formed))
 
-  pub page-says : Says functions b (entries_of (seen f))
-  page-says buffer h =
-      ap (λ (c : Called). read_page (take page_length c.bytes)) (page-is buffer)
+  pub page_says : Says functions b (entries_of (seen f))
+  page_says buffer h =
+      ap (λ (c : Called). read_page (take page_length c.bytes)) (page_is buffer)
       ∙ page_said (entries_of (seen f)) (page_laws.length (seen f)) (page_laws.read (seen f) (fits_by f.shown f.held (fits f i).shown)) buffer h
 
 -- showing, it is level or waiting, by the reader and by the page

@@ -52,13 +52,13 @@ use Rattle.abstract_calls.proofs.Lists.{no_bytes}
 use Rattle.promise_calls.specs.Refused.{of_image, refusals_of}
 use Rattle.promise_calls.proofs.Images.{calls_fit, image_read}
 use Rattle.promise_calls.proofs.First.{call_refuses, start_refuses}
-use Rattle.promise_calls.proofs.Reached.{reached, reached-good, reached-equal, reached-image, reached-returns, reached-buffers, fits_good}
+use Rattle.promise_calls.proofs.Reached.{reached, reached_good, reached_equal, reached_image, reached_returns, reached_buffers, fits_good}
 use Rattle.promise_calls.proofs.Turned.{call_back}
 use Rattle.promise_calls.proofs.Written.{packet-sent, picture-sent}
 use Rattle.promise.specs.Promise.{start_refused, registers, Serves, Promise}
 use Rattle.promise.proofs.Desk.{ours_follower_starts}
 use Rattle.promise.proofs.Linked.{ours-link}
-use Rattle.promise.proofs.Starts.{Leaves, start-leaves, start-number, start_back}
+use Rattle.promise.proofs.Starts.{Leaves, start_leaves, start_number, start_back}
 
 -- 21 does not apply to the image of a service: the conditions are those of the definition where it stands
 
@@ -86,15 +86,15 @@ open_is between = refl
 open_is (at n o k) = refl
 
 module _ (s : Service) (p : Policy) (q : Equal s p) where
-  open-same : waiting (order_of s.phase) ≡ is_at p.stand
-  open-same = ap waiting q.order ∙ open_is p.stand
+  open_same : waiting (order_of s.phase) ≡ is_at p.stand
+  open_same = ap waiting q.order ∙ open_is p.stand
 
-  same-conditions : (c : ByteCall) → refusals_of s c ≡ conditions_to p c
-  same-conditions (open_event psus chargers kind device detail) = rw (q.registered, q.number, open-same) refl
-  same-conditions (give_answer psus chargers a) = rw (q.registered, q.order) refl
-  same-conditions read_order = refl
-  same-conditions (write_packet buffer) = rw (q.number, open-same) refl
-  same-conditions (write_picture buffer) = rw open-same refl
+  same_conditions : (c : ByteCall) → refusals_of s c ≡ conditions_to p c
+  same_conditions (open_event psus chargers kind device detail) = rw (q.registered, q.number, open_same) refl
+  same_conditions (give_answer psus chargers a) = rw (q.registered, q.order) refl
+  same_conditions read_order = refl
+  same_conditions (write_packet buffer) = rw (q.number, open_same) refl
+  same_conditions (write_picture buffer) = rw open_same refl
 
 module _ (s : Service) (good : Good s) (demands : run.Demands s) where
   abbrev g : Registration
@@ -106,9 +106,9 @@ module _ (s : Service) (good : Good s) (demands : run.Demands s) where
   refuses : (l : List ByteCall) (c : ByteCall) → CallsBytes l → Refuses (conditions_to (defined g l) c) (returned functions (images functions image l) c)
   refuses l c b =
       let t = reached s l in
-      let h = reached-good s good demands l b in
-      subst (λ (i : List ℕ). Refuses (conditions_to (defined g l) c) (returned functions i c)) (reached-image s good demands l b)
-      (subst (λ (z : List (Bool × ℕ)). Refuses z (returned functions (service_bytes t) c)) (same-conditions t (defined g l) (reached-equal s good demands l b) c)
+      let h = reached_good s good demands l b in
+      subst (λ (i : List ℕ). Refuses (conditions_to (defined g l) c) (returned functions i c)) (reached_image s good demands l b)
+      (subst (λ (z : List (Bool × ℕ)). Refuses z (returned functions (service_bytes t) c)) (same_conditions t (defined g l) (reached_equal s good demands l b) c)
       (without (refusals_of t c) (returned functions (service_bytes t) c)
       (subst (λ (r : ReadService). Refuses (of_image r (λ x. refusals_of x c)) (returned functions (service_bytes t) c)) (image_read t h) (call_refuses (service_bytes t) c))))
 
@@ -135,18 +135,18 @@ module _ (s : Service) (good : Good s) (demands : run.Demands s) where
       more [] k = (no_bytes, tt)
       more (c ∷ m) k = (k.0, more m k.1)
 
-  ours-serves : Serves functions image g
-  ours-serves = record {
+  ours_serves : Serves functions image g
+  ours_serves = record {
     refuses = refuses;
     turned_back = λ l c b e. call_back (images functions image l) c e;
-    returns = λ l c b. reached-returns s good demands l b c;
-    buffers = λ l c b. reached-buffers s good demands l b c;
+    returns = λ l c b. reached_returns s good demands l b c;
+    buffers = λ l c b. reached_buffers s good demands l b c;
     packet_read = packet_read;
     picture_read = picture_read;
-    size = λ l b. ap length (sym (reached-image s good demands l b)) ∙ service_length_lem (reached s l);
+    size = λ l b. ap length (sym (reached_image s good demands l b)) ∙ service_length_lem (reached s l);
     bytes = λ l b.
-        let h = reached-good s good demands l b in
-        subst AllBytes (reached-image s good demands l b) (service_bytes_lem (reached s l) h.typed h.fits);
+        let h = reached_good s good demands l b in
+        subst AllBytes (reached_image s good demands l b) (service_bytes_lem (reached s l) h.typed h.fits);
     link = λ calls b x e. ours-link s good demands calls b (demands.demand_3 (calls_of (started g) calls) (calls_fit (started g) calls b)) x e;
   }
 
@@ -166,9 +166,9 @@ started_demands a s e =
 start_serves : (image : List ℕ) (a : Arguments) → start_refused image a ≡ 0 → (c : Config) → config_of a ≡ OptionConfig.Some c →
     Serves functions (start_call image (config_of a) a.ports a.chargers).bytes (registers a c)
 start_serves image a q c e =
-    let z = start-leaves image a.ports a.chargers (config_of a) c e q in
+    let z = start_leaves image a.ports a.chargers (config_of a) c e q in
     let s : Service = fresh_service c a.ports a.chargers in
-    subst (λ (b : List ℕ). Serves functions b (registers a c)) (sym z.bytes) (ours-serves s (started_good a s z.service) (started_demands a s z.service))
+    subst (λ (b : List ℕ). Serves functions b (registers a c)) (sym z.bytes) (ours_serves s (started_good a s z.service) (started_demands a s z.service))
 
 -- bytes of another length
 
@@ -224,7 +224,7 @@ pub promised : Promise functions
 promised = record {
   start = λ image a. record {
     first = (start_refuses image (config_of a) a.ports a.chargers).first;
-    number = start-number image a.ports a.chargers (config_of a);
+    number = start_number image a.ports a.chargers (config_of a);
     turned_back = start_back image a.ports a.chargers (config_of a);
     serves = start_serves image a;
   };

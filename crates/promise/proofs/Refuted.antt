@@ -215,59 +215,59 @@ module _ (f : Functions) (promise : Promise f) where
 
   -- the picture and the packet are written, as these bytes
 
-  number-0 : returned f image pictures ≡ 1539
-  number-0 = served.returns [] pictures tt ∙ picture_number
+  number_0 : returned f image pictures ≡ 1539
+  number_0 = served.returns [] pictures tt ∙ picture_number
 
-  bytes-0 : take (returned f image pictures / 256 % 256) (buffer_after f image pictures) ≡ y0
-  bytes-0 =
-      ap (λ (n : ℕ). take (n / 256 % 256) (buffer_after f image pictures)) number-0
+  bytes_0 : take (returned f image pictures / 256 % 256) (buffer_after f image pictures) ≡ y0
+  bytes_0 =
+      ap (λ (n : ℕ). take (n / 256 % 256) (buffer_after f image pictures)) number_0
       ∙ (ap (λ (b : List ℕ). take 6 b) (served.buffers [] pictures tt) ∙ picture_bytes_lem)
 
-  picture-0 : PictureOf f image (g 1) calls 0 y0
-  picture-0 = record {
+  picture_0 : PictureOf f image (g 1) calls 0 y0
+  picture_0 = record {
     before = [];
     buffer = zeros 64;
     rest = opening ∷ answering 0 ∷ answering 0 ∷ packets ∷ [];
     among = refl;
-    writes = (ap (λ (n : ℕ). n % 256) number-0, sym bytes-0);
+    writes = (ap (λ (n : ℕ). n % 256) number_0, sym bytes_0);
     number = refl;
   }
 
   abbrev then : List ℕ
   then = images f image before_packet
 
-  number-1 : returned f then packets ≡ 3075
-  number-1 = served.returns before_packet packets before_bytes ∙ packet_number
+  number_1 : returned f then packets ≡ 3075
+  number_1 = served.returns before_packet packets before_bytes ∙ packet_number
 
-  bytes-1 : take (returned f then packets / 256 % 256) (buffer_after f then packets) ≡ y1
-  bytes-1 =
-      ap (λ (n : ℕ). take (n / 256 % 256) (buffer_after f then packets)) number-1
+  bytes_1 : take (returned f then packets / 256 % 256) (buffer_after f then packets) ≡ y1
+  bytes_1 =
+      ap (λ (n : ℕ). take (n / 256 % 256) (buffer_after f then packets)) number_1
       ∙ (ap (λ (b : List ℕ). take 12 b) (served.buffers before_packet packets before_bytes) ∙ packet_bytes_lem)
 
-  packet-at : (n : ℕ) → 1 ≡ n → PacketOf f image (g 1) calls n y1
-  packet-at n e = record {
+  packet_at : (n : ℕ) → 1 ≡ n → PacketOf f image (g 1) calls n y1
+  packet_at n e = record {
     before = before_packet;
     buffer = zeros 64;
     rest = [];
     among = refl;
-    writes = (ap (λ (n : ℕ). n % 256) number-1, sym bytes-1);
+    writes = (ap (λ (n : ℕ). n % 256) number_1, sym bytes_1);
     number = closed_one ∙ e;
   }
 
-  packet-ok : (n : ℕ) (e : 1 ≡ n) → (defined (g 1) (packet-at n e).before).answer ≡ Result.Ok
-  unfolding packet-at
-  packet-ok n e = closed_ok
+  packet_ok : (n : ℕ) (e : 1 ≡ n) → (defined (g 1) (packet_at n e).before).answer ≡ Result.Ok
+  unfolding packet_at
+  packet_ok n e = closed_ok
 
   -- a fresh follower is lost, and the picture is shown
-  shows-0 : Shows f (desk f X (take_packet y0 ∷ [])) 0 (held (g 1) calls 0)
-  shows-0 = (link.recovers [] 0 y0 tt picture-0 ((promise.follower_start X).follows follower_zeros).fresh_lost).1 (λ n y i w. absurd i)
+  shows_0 : Shows f (desk f X (take_packet y0 ∷ [])) 0 (held (g 1) calls 0)
+  shows_0 = (link.recovers [] 0 y0 tt picture_0 ((promise.follower_start X).follows follower_zeros).fresh_lost).1 (λ n y i w. absurd i)
 
   -- and after its packet, event 1
 
   comes : Comes f image (g 1) calls 0 1 (y1 ∷ [])
   comes j h k =
       let e : 1 ≡ j = omega (arith, h, k) in
-      (y1, inl refl, (packet-at j e, packet-ok j e))
+      (y1, inl refl, (packet_at j e, packet_ok j e))
 
   -- a packet or picture of the run has the number that is read of it
   numbered : (n : ℕ) (y : List ℕ) (p : Packet) → read_packet y ≡ ReadPacket.Packet p → PacketOf f image (g 1) calls n y ⊎ PictureOf f image (g 1) calls n y → n ≡ number_in p
@@ -289,8 +289,8 @@ module _ (f : Functions) (promise : Promise f) where
       omega (arith, z, read_1.2)
   above n y (inr (inr e)) w = absurd e
 
-  shows-1 : Shows f (desk f X (take_packet y0 ∷ take_packet y1 ∷ [])) 1 (held (g 1) calls 1)
-  shows-1 = link.follows (take_packet y0 ∷ []) (take_packet y1 ∷ []) 0 1 (picture 0 picture-0, (packet 1 (packet-at 1 refl), tt)) shows-0 (omega arith) comes above
+  shows_1 : Shows f (desk f X (take_packet y0 ∷ take_packet y1 ∷ [])) 1 (held (g 1) calls 1)
+  shows_1 = link.follows (take_packet y0 ∷ []) (take_packet y1 ∷ []) 0 1 (picture 0 picture_0, (packet 1 (packet_at 1 refl), tt)) shows_0 (omega arith) comes above
 
 -- the second run, of two ports: port 1 offers alone
 
@@ -345,11 +345,11 @@ tracks_four = refl
 -- the programs
 
 not_always_lost : Promise always_lost → ⊥
-not_always_lost p = not_lost always_lost (desk always_lost X (take_packet y0 ∷ [])) 0 (held (g 1) calls 0) (shows-0 always_lost p).shown refl
+not_always_lost p = not_lost always_lost (desk always_lost X (take_packet y0 ∷ [])) 0 (held (g 1) calls 0) (shows_0 always_lost p).shown refl
 
 not_deaf : Promise deaf → ⊥
 not_deaf p =
-    let z : ◌≡◌ {A = ℕ} 0 1 = sym (shows-0 deaf p).number ∙ (shows-1 deaf p).number in
+    let z : ◌≡◌ {A = ℕ} 0 1 = sym (shows_0 deaf p).number ∙ (shows_1 deaf p).number in
     omega (arith, z)
 
 -- the image and the orders up to the first answer are ours

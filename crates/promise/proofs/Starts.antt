@@ -42,9 +42,9 @@ module _ (image : List ℕ) (ports chargers : ℕ) where
     pub bytes : x.bytes ≡ service_bytes (fresh_service c ports chargers)
     pub service : y ≡ Started.Service (fresh_service c ports chargers)
 
-  start-fresh : (c : Config) → refusal (OptionConfig.Some c) ≡ 0 →
+  start_fresh : (c : Config) → refusal (OptionConfig.Some c) ≡ 0 →
       Leaves c (start_call image (OptionConfig.Some c) ports chargers) (start_of (OptionConfig.Some c) ports chargers)
-  start-fresh c = go (ltb 16 ports) (ltb 8 chargers)
+  start_fresh c = go (ltb 16 ports) (ltb 8 chargers)
     where
       from : Bool → Bool → Started
       from s t = let n : ℕ = cond (s || (t || false)) 20 0 in cond (eqb n 0) (start_with (OptionConfig.Some c) ports chargers) (Started.Refused n)
@@ -62,18 +62,18 @@ module _ (image : List ℕ) (ports chargers : ℕ) where
       go false true q = absurd (omega (arith, q))
       go false false q = last (eqb (length image) service_length) refl q
 
-  pub start-leaves : (o : OptionConfig) (c : Config) → o ≡ OptionConfig.Some c → refusal o ≡ 0 → Leaves c (start_call image o ports chargers) (start_of o ports chargers)
-  start-leaves o c e q =
-      subst (λ (z : OptionConfig). Leaves c (start_call image z ports chargers) (start_of z ports chargers)) (sym e) (start-fresh c (ap refusal (sym e) ∙ q))
+  pub start_leaves : (o : OptionConfig) (c : Config) → o ≡ OptionConfig.Some c → refusal o ≡ 0 → Leaves c (start_call image o ports chargers) (start_of o ports chargers)
+  start_leaves o c e q =
+      subst (λ (z : OptionConfig). Leaves c (start_call image z ports chargers) (start_of z ports chargers)) (sym e) (start_fresh c (ap refusal (sym e) ∙ q))
 
-  pub start-number : (o : OptionConfig) → (start_call image o ports chargers).number ≡ done_or (refusal o)
-  start-number o = go (eqb (refusal o) 0) refl
+  pub start_number : (o : OptionConfig) → (start_call image o ports chargers).number ≡ done_or (refusal o)
+  start_number o = go (eqb (refusal o) 0) refl
     where
       go : (t : Bool) → eqb (refusal o) 0 ≡ t → (start_call image o ports chargers).number ≡ done_or (refusal o)
       go true e =
           let q : refusal o ≡ 0 = eqb-true (refusal o) 0 e in
           let c = configured o q in
-          (start-leaves o c.0 c.1 q).number ∙ sym (ap done_or q)
+          (start_leaves o c.0 c.1 q).number ∙ sym (ap done_or q)
       go false e =
           (start_refuses image o ports chargers).turned_back (eqb-false (refusal o) 0 e)
           ∙ sym (ap (λ (t : Bool). cond {A = ℕ} t done_number (refused_number (refusal o))) e)

@@ -191,17 +191,17 @@ module _ (s : Service) (good : Good s) (demands : run.Demands s) where
           IsAt between = ⊥
           IsAt (at n o k) = Unit {0}
 
-  held-from : (l m : List Call) (n : ℕ) → CallsFit (m ++ l) → DisplayFits (display_of (after m).state) → DisplayFits (held_at (after m) l n)
-  held-from [] m n f h = h
-  held-from (c ∷ l) m n f h =
+  held_from : (l m : List Call) (n : ℕ) → CallsFit (m ++ l) → DisplayFits (display_of (after m).state) → DisplayFits (held_at (after m) l n)
+  held_from [] m n f h = h
+  held_from (c ∷ l) m n f h =
       let fits : CallsFit ((m ++ (c ∷ [])) ++ l) = subst CallsFit (sym (append_assoc m (c ∷ []) l)) f in
       go (eqb n (after m).number)
       (subst (λ (p : Policy). DisplayFits (held_at p l n)) (policies_append (started s.registration) m (c ∷ []))
-      (held-from l (m ++ (c ∷ [])) n fits (next m c (fit_left (m ++ (c ∷ [])) l fits) h)))
+      (held_from l (m ++ (c ∷ [])) n fits (next m c (fit_left (m ++ (c ∷ [])) l fits) h)))
     where
       go : (t : Bool) → DisplayFits (held_at (policy_after (after m) c) l n) → DisplayFits (cond t (display_of (after m).state) (held_at (policy_after (after m) c) l n))
       go true later = h
       go false later = later
 
-  pub held-in-range : (l : List Call) (n : ℕ) → CallsFit l → DisplayFits (held_at (started s.registration) l n)
-  held-in-range l n f = held-from l [] n f (record { consumer = tt; available = omega arith; providers = omega arith })
+  pub held_in_range : (l : List Call) (n : ℕ) → CallsFit l → DisplayFits (held_at (started s.registration) l n)
+  held_in_range l n f = held_from l [] n f (record { consumer = tt; available = omega arith; providers = omega arith })

@@ -19,34 +19,34 @@ use Rattle.promise_invariant.proofs.Good.{Good}
 use Rattle.promise_invariant.proofs.Invariant.{start_good, services_good}
 use Rattle.abi_functions.specs.Ours.{functions}
 use Rattle.promise_calls.proofs.Images.{services_registration, calls_fit, images_are}
-use Rattle.promise_calls.proofs.Returns.{returns-are, buffers-are}
+use Rattle.promise_calls.proofs.Returns.{returns_are, buffers_are}
 
 -- the service after these calls
 abbrev pub reached : Service → List ByteCall → Service
 reached s l = services s (calls_of (started s.registration) l)
 
 module _ (s : Service) (good : Good s) (demands : run.Demands s) (l : List ByteCall) (b : CallsBytes l) where
-  pub reached-good : Good (reached s l)
-  reached-good = services_good (calls_of (started s.registration) l) s (calls_fit (started s.registration) l b) good
+  pub reached_good : Good (reached s l)
+  reached_good = services_good (calls_of (started s.registration) l) s (calls_fit (started s.registration) l b) good
 
-  pub reached-equal : Equal (reached s l) (defined s.registration l)
-  reached-equal = demands.demand_2 (calls_of (started s.registration) l) (calls_fit (started s.registration) l b)
+  pub reached_equal : Equal (reached s l) (defined s.registration l)
+  reached_equal = demands.demand_2 (calls_of (started s.registration) l) (calls_fit (started s.registration) l b)
 
-  pub reached-registration : (reached s l).registration ≡ s.registration
-  reached-registration = services_registration (calls_of (started s.registration) l) s
+  pub reached_registration : (reached s l).registration ≡ s.registration
+  reached_registration = services_registration (calls_of (started s.registration) l) s
 
-  pub reached-image : service_bytes (reached s l) ≡ images functions (service_bytes s) l
-  reached-image = sym (images_are l s (started s.registration) refl b good)
+  pub reached_image : service_bytes (reached s l) ≡ images functions (service_bytes s) l
+  reached_image = sym (images_are l s (started s.registration) refl b good)
 
-  pub reached-returns : (c : ByteCall) → returned functions (images functions (service_bytes s) l) c ≡ return_to (defined s.registration l) c
-  reached-returns c =
-      subst (λ (i : List ℕ). returned functions i c ≡ return_to (defined s.registration l) c) reached-image
-      (returns-are (reached s l) (defined s.registration l) reached-good reached-equal c)
+  pub reached_returns : (c : ByteCall) → returned functions (images functions (service_bytes s) l) c ≡ return_to (defined s.registration l) c
+  reached_returns c =
+      subst (λ (i : List ℕ). returned functions i c ≡ return_to (defined s.registration l) c) reached_image
+      (returns_are (reached s l) (defined s.registration l) reached_good reached_equal c)
 
-  pub reached-buffers : (c : ByteCall) → buffer_after functions (images functions (service_bytes s) l) c ≡ buffer_to (defined s.registration l) c
-  reached-buffers c =
-      subst (λ (i : List ℕ). buffer_after functions i c ≡ buffer_to (defined s.registration l) c) reached-image
-      (buffers-are (reached s l) (defined s.registration l) reached-good reached-equal c)
+  pub reached_buffers : (c : ByteCall) → buffer_after functions (images functions (service_bytes s) l) c ≡ buffer_to (defined s.registration l) c
+  reached_buffers c =
+      subst (λ (i : List ℕ). buffer_after functions i c ≡ buffer_to (defined s.registration l) c) reached_image
+      (buffers_are (reached s l) (defined s.registration l) reached_good reached_equal c)
 
 -- a start that is accepted gives such a service
 

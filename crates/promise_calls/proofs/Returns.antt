@@ -53,27 +53,27 @@ stand_number_lem s p between e a n =
 stand_number_lem s p (at n o k) e a m = ap (λ (q : OptionOrder). stand_number q s.phase s.orders) e
 
 module _ (s : Service) (p : Policy) (h : Good s) (q : Equal s p) where
-  pub returns-are : (c : ByteCall) → returned functions (service_bytes s) c ≡ return_to p c
-  returns-are (open_event psus chargers kind device detail) =
+  pub returns_are : (c : ByteCall) → returned functions (service_bytes s) c ≡ return_to p c
+  returns_are (open_event psus chargers kind device detail) =
       ap (λ (x : ReadService). (on_service (service_bytes s) x psus chargers (λ t r. open_of t kind device detail r)).number) (image_read s h)
       ∙ (rows_number (service_bytes s) (rows_in s.registration psus chargers) (λ r. open_of s kind device detail r) (λ r. open_to p kind device detail r)
       (λ r. q.opening kind device detail r)
       ∙ ap (λ (g : Registration). rows_to (rows_in g psus chargers) (λ r. step_number (open_to p kind device detail r))) q.registered)
-  returns-are (give_answer psus chargers a) =
+  returns_are (give_answer psus chargers a) =
       ap (λ (x : ReadService). (on_service (service_bytes s) x psus chargers (λ t r. answer_of t a r)).number) (image_read s h)
       ∙ (rows_number (service_bytes s) (rows_in s.registration psus chargers) (λ r. answer_of s a r) (λ r. answer_to p.stand a r) (λ r. q.answering a r)
       ∙ ap (λ (g : Registration). rows_to (rows_in g psus chargers) (λ r. step_number (answer_to p.stand a r))) q.registered)
-  returns-are read_order = ap order_call (image_read s h) ∙ stand_number_lem s p p.stand q.order q.answer q.orders
-  returns-are (write_packet buffer) =
+  returns_are read_order = ap order_call (image_read s h) ∙ stand_number_lem s p p.stand q.order q.answer q.orders
+  returns_are (write_packet buffer) =
       ap (λ (x : ReadService). (write_packet_call x buffer).number) (image_read s h) ∙ ap (λ (x : SentPacket). (packet_call x buffer).number) q.packet
-  returns-are (write_picture buffer) =
+  returns_are (write_picture buffer) =
       ap (λ (x : ReadService). (write_picture_call x buffer).number) (image_read s h) ∙ ap (λ (x : SentPicture). (picture_call x buffer).number) q.picture
 
-  pub buffers-are : (c : ByteCall) → buffer_after functions (service_bytes s) c ≡ buffer_to p c
-  buffers-are (open_event psus chargers kind device detail) = refl
-  buffers-are (give_answer psus chargers a) = refl
-  buffers-are read_order = refl
-  buffers-are (write_packet buffer) =
+  pub buffers_are : (c : ByteCall) → buffer_after functions (service_bytes s) c ≡ buffer_to p c
+  buffers_are (open_event psus chargers kind device detail) = refl
+  buffers_are (give_answer psus chargers a) = refl
+  buffers_are read_order = refl
+  buffers_are (write_packet buffer) =
       ap (λ (x : ReadService). (write_packet_call x buffer).bytes) (image_read s h) ∙ ap (λ (x : SentPacket). (packet_call x buffer).bytes) q.packet
-  buffers-are (write_picture buffer) =
+  buffers_are (write_picture buffer) =
       ap (λ (x : ReadService). (write_picture_call x buffer).bytes) (image_read s h) ∙ ap (λ (x : SentPicture). (picture_call x buffer).bytes) q.picture

@@ -113,13 +113,13 @@ takes_fit (x ∷ l) f a h = takes_fit l (take_bytes f x) a.1 (a.0.fits f h)
 -- from a fresh follower's image
 
 module _ (b : List ℕ) (e : length b ≡ follower_length) (l : List DeskCall) (a : AllKeep (packets_of l)) where
-  pub desk-is : desk functions b l ≡ follower_bytes (follower_after (packets_of l))
-  desk-is =
+  pub desk_is : desk functions b l ≡ follower_bytes (follower_after (packets_of l))
+  desk_is =
       desk_takes functions l (functions.follower_start b).bytes
       ∙ (ap (λ (x : List ℕ). takes_on functions x (packets_of l)) (started_bytes b e) ∙ takes_bytes_lem (packets_of l) fresh a fresh_fits)
 
-  pub desk-fits : image_fits (follower_after (packets_of l)) ≡ true
-  desk-fits = takes_fit (packets_of l) fresh a fresh_fits
+  pub desk_fits : image_fits (follower_after (packets_of l)) ≡ true
+  desk_fits = takes_fit (packets_of l) fresh a fresh_fits
 
-  pub desk-read : follower_from (desk functions b l) ≡ record { ok = true; follower = follower_after (packets_of l) }
-  desk-read = ap follower_from desk-is ∙ follower_read_write (follower_after (packets_of l)) desk-fits
+  pub desk_read : follower_from (desk functions b l) ≡ record { ok = true; follower = follower_after (packets_of l) }
+  desk_read = ap follower_from desk_is ∙ follower_read_write (follower_after (packets_of l)) desk_fits

@@ -40,7 +40,7 @@ use Rattle.abstract_calls.proofs.Results.{refused_low, written_length}
 use Rattle.bytes_service_image.specs.Image.{service_bytes}
 use Rattle.promise_invariant.proofs.Good.{Good}
 use Rattle.abi_functions.specs.Ours.{functions}
-use Rattle.promise_calls.proofs.Reached.{reached-equal, reached-returns, reached-buffers}
+use Rattle.promise_calls.proofs.Reached.{reached_equal, reached_returns, reached_buffers}
 
 refused_not : (n : ℕ) → refused_number n % 256 ≡ 3 → ⊥
 refused_not n e = let q : ◌≡◌ {A = ℕ} 0 3 = sym (refused_low n) ∙ e in omega (arith, q)
@@ -108,30 +108,30 @@ module _ (s : Service) (good : Good s) (demands : run.Demands s) (calls : List B
         (e : EventPacket) × (packet_to (defined g before) ≡ SentPacket.Packet e) × Sent y (Packet.Event e)
     packet-sent buffer y among w =
         go (packet_to (defined g before)) refl
-        (ap (λ (n : ℕ). n % 256) (sym (reached-returns s good demands before b (write_packet buffer))) ∙ w.0)
+        (ap (λ (n : ℕ). n % 256) (sym (reached_returns s good demands before b (write_packet buffer))) ∙ w.0)
         (w.1
-        ∙ (ap (λ (n : ℕ). take (n / 256 % 256) (buffer_after functions (images functions (service_bytes s) before) (write_packet buffer))) (reached-returns s good demands before b (write_packet buffer))
-        ∙ ap (λ (r : List ℕ). take ((packet_call (packet_to (defined g before)) buffer).number / 256 % 256) r) (reached-buffers s good demands before b (write_packet buffer))))
+        ∙ (ap (λ (n : ℕ). take (n / 256 % 256) (buffer_after functions (images functions (service_bytes s) before) (write_packet buffer))) (reached_returns s good demands before b (write_packet buffer))
+        ∙ ap (λ (r : List ℕ). take ((packet_call (packet_to (defined g before)) buffer).number / 256 % 256) r) (reached_buffers s good demands before b (write_packet buffer))))
       where
         go : (x : SentPacket) → packet_to (defined g before) ≡ x → (packet_call x buffer).number % 256 ≡ 3 →
             y ≡ take ((packet_call x buffer).number / 256 % 256) (packet_call x buffer).bytes →
             (e : EventPacket) × (packet_to (defined g before) ≡ SentPacket.Packet e) × Sent y (Packet.Event e)
         go (SentPacket.Refused n) q h z = absurd (refused_not n h)
         go (SentPacket.Packet e) q h z =
-            (e, q, sent (write_packet buffer) policy.write_packet (Packet.Event e) buffer y among refl (e, (reached-equal s good demands before b).packet ∙ q, refl) h z)
+            (e, q, sent (write_packet buffer) policy.write_packet (Packet.Event e) buffer y among refl (e, (reached_equal s good demands before b).packet ∙ q, refl) h z)
 
     pub picture-sent : (buffer y : List ℕ) → calls ≡ before ++ (write_picture buffer ∷ rest) → Writes functions (images functions (service_bytes s) before) (write_picture buffer) y →
         (v : Picture) × (picture_to (defined g before) ≡ SentPicture.Picture v) × Sent y (Packet.Picture v)
     picture-sent buffer y among w =
         go (picture_to (defined g before)) refl
-        (ap (λ (n : ℕ). n % 256) (sym (reached-returns s good demands before b (write_picture buffer))) ∙ w.0)
+        (ap (λ (n : ℕ). n % 256) (sym (reached_returns s good demands before b (write_picture buffer))) ∙ w.0)
         (w.1
-        ∙ (ap (λ (n : ℕ). take (n / 256 % 256) (buffer_after functions (images functions (service_bytes s) before) (write_picture buffer))) (reached-returns s good demands before b (write_picture buffer))
-        ∙ ap (λ (r : List ℕ). take ((picture_call (picture_to (defined g before)) buffer).number / 256 % 256) r) (reached-buffers s good demands before b (write_picture buffer))))
+        ∙ (ap (λ (n : ℕ). take (n / 256 % 256) (buffer_after functions (images functions (service_bytes s) before) (write_picture buffer))) (reached_returns s good demands before b (write_picture buffer))
+        ∙ ap (λ (r : List ℕ). take ((picture_call (picture_to (defined g before)) buffer).number / 256 % 256) r) (reached_buffers s good demands before b (write_picture buffer))))
       where
         go : (x : SentPicture) → picture_to (defined g before) ≡ x → (picture_call x buffer).number % 256 ≡ 3 →
             y ≡ take ((picture_call x buffer).number / 256 % 256) (picture_call x buffer).bytes →
             (v : Picture) × (picture_to (defined g before) ≡ SentPicture.Picture v) × Sent y (Packet.Picture v)
         go (SentPicture.Refused n) q h z = absurd (refused_not n h)
         go (SentPicture.Picture v) q h z =
-            (v, q, sent (write_picture buffer) policy.write_picture (Packet.Picture v) buffer y among refl (v, (reached-equal s good demands before b).picture ∙ q, refl) h z)
+            (v, q, sent (write_picture buffer) policy.write_picture (Packet.Picture v) buffer y among refl (v, (reached_equal s good demands before b).picture ∙ q, refl) h z)

@@ -18,7 +18,7 @@ use Rattle.power_policy_service.specs.Provider.{power_state_of}
 use Rattle.power_policy_service.specs.Rows.{psu_at}
 use Rattle.power_policy_service.specs.declared.config.OptionMilliwatts.{OptionMilliwatts}
 use Rattle.power_policy_service.specs.declared.provider.PowerState.{PowerState}
-use Rattle.power_policy_service.proofs.Choice.{only-chosen}
+use Rattle.power_policy_service.proofs.Choice.{only_chosen}
 use Rattle.abstract_policy.specs.Edges.{psu, offer, contract, nothing, offering, EventEdges}
 use Rattle.abstract_policy.proofs.Edges.{event_edges}
 use Rattle.wire.specs.Number.{leb128, read_number}
@@ -154,7 +154,7 @@ edges =
       P1-type_c = refl;
       P1-rounded_down = refl;
       P1-most = refl;
-      P2 = λ minimum current psus n h. only-chosen minimum current psus n OptionAvailableConsumer.None (λ p l. rw (h p l));
+      P2 = λ minimum current psus n h. only_chosen minimum current psus n OptionAvailableConsumer.None (λ p l. rw (h p l));
       P3-met = refl;
       P3-missed = refl;
       P4-current = refl;

@@ -43,7 +43,7 @@ use Rattle.machine_follows.proofs.Serves.{open_orders, service, service_at, answ
 use Rattle.power_policy_interface.proofs.Conjunction.{and_left, and_right}
 use Rattle.bytes_service_image.specs.WellFormed.{leaver_fits, stage_fits, stage_least, phase_fits, none_connected, no_provider, not_disconnected, no_consumer, no_figures, not_connected, not_updated, nothing_told, tells}
 use Rattle.promise_invariant.proofs.Good.{Good, At, Limits, Parts, parts}
-use Rattle.promise_invariant.proofs.Steps.{TurnGood, orders_most_lem, answered-good}
+use Rattle.promise_invariant.proofs.Steps.{TurnGood, orders_most_lem, answered_good}
 use Rattle.promise_invariant.proofs.Invariant.{answer_good}
 
 apart : false ≡ true → ⊥
@@ -157,24 +157,24 @@ by_outcome n g p m r Result.Ok h = h
 by_outcome n g p m r (Result.Err e) h = tt
 
 module _ (n before : ℕ) (g : Registration) (limits : Limits g) (next : (t : Turn) → TurnGood g (before + 1) t → AtMost n (stands_for g t)) where
-  after-answer : (p : Phase) (m : Memory) (o : Order) → ((a : Result) (r : Records) → stands_for g (answered_of g p o m a r) ≡ rest g p a (held_of m) r close) →
+  after_answer : (p : Phase) (m : Memory) (o : Order) → ((a : Result) (r : Records) → stands_for g (answered_of g p o m a r) ≡ rest g p a (held_of m) r close) →
       At g.ports g.chargers (before + 1) p m → (a : Result) (r : Records) → AtMost n (rest g p a (held_of m) r close)
-  after-answer p m o e h a r =
-      subst (λ i. AtMost n i) (e a r) (by_outcome n g p m r (outcome_of o a) (next (after_order g p m r) (answered-good g limits r Result.Ok p m (before + 1) refl h)))
+  after_answer p m o e h a r =
+      subst (λ i. AtMost n i) (e a r) (by_outcome n g p m r (outcome_of o a) (next (after_order g p m r) (answered_good g limits r Result.Ok p m (before + 1) refl h)))
 
   -- one order more than after its answer
-  one-order : (p : Phase) (m : Memory) → At g.ports g.chargers (before + open_orders (stands_at g p m)) p m → AtMost (suc n) (stands_at g p m)
-  one-order (Phase.Closed a) m h = tt
-  one-order (Phase.Leaving i p f) m h =
-      after-answer (Phase.Leaving i p f) m (Order.Detach i) (leaving_answered g i p f m limits.chargers (fits_at h)) h
-  one-order (Phase.Switching l old f new) m h =
-      after-answer (Phase.Switching l old f new) m (switch_order l old)
+  one_order : (p : Phase) (m : Memory) → At g.ports g.chargers (before + open_orders (stands_at g p m)) p m → AtMost (suc n) (stands_at g p m)
+  one_order (Phase.Closed a) m h = tt
+  one_order (Phase.Leaving i p f) m h =
+      after_answer (Phase.Leaving i p f) m (Order.Detach i) (leaving_answered g i p f m limits.chargers (fits_at h)) h
+  one_order (Phase.Switching l old f new) m h =
+      after_answer (Phase.Switching l old f new) m (switch_order l old)
       (switching_answered g l old f new m limits.chargers (fits_at h)) h
-  one-order (Phase.Connecting s new) m h =
-      after-answer (Phase.Connecting s new) m (connect_order s new)
+  one_order (Phase.Connecting s new) m h =
+      after_answer (Phase.Connecting s new) m (connect_order s new)
       (connecting_answered g s new m limits.chargers (fits_at h)) h
-  one-order (Phase.Providing p c) m h =
-      after-answer (Phase.Providing p c) m (Order.ConnectProvider p c) (providing_answered g p c m (fits_at h)) h
+  one_order (Phase.Providing p c) m h =
+      after_answer (Phase.Providing p c) m (Order.ConnectProvider p c) (providing_answered g p c m (fits_at h)) h
 
 -- all are counted: it is closed
 all_counted : (before : ℕ) (g : Registration) (p : Phase) (m : Memory) → At g.ports g.chargers (before + open_orders (stands_at g p m)) p m → before ≡ 3 + 4 * g.chargers → AtMost 0 (stands_at g p m)
@@ -186,7 +186,7 @@ all_counted before g (Phase.Providing p c) m h e = omega (arith, orders_most_lem
 
 turn_bound : (n before : ℕ) (g : Registration) (t : Turn) → Limits g → TurnGood g before t → before + n ≡ 3 + 4 * g.chargers → AtMost n (stands_for g t)
 turn_bound zero before g t limits h e = all_counted before g t.phase t.memory h (omega arith)
-turn_bound (suc n) before g t limits h e = one-order n before g limits (λ u k. turn_bound n (before + 1) g u limits k (omega arith)) t.phase t.memory h
+turn_bound (suc n) before g t limits h e = one_order n before g limits (λ u k. turn_bound n (before + 1) g u limits k (omega arith)) t.phase t.memory h
 
 -- an open event has given an order
 

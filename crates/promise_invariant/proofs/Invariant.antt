@@ -43,7 +43,7 @@ use Rattle.promise_run.specs.Run.{after_call, services, CallFits, CallsFit}
 use Rattle.promise_run.specs.Sized.{RecordsFit}
 use Rattle.bytes_service_image.specs.WellFormed.{error_fits, result_fits, number_fits}
 use Rattle.promise_invariant.proofs.Good.{Good, StateGood, MemoryGood, Limits, Parts, parts, good}
-use Rattle.promise_invariant.proofs.Steps.{TurnGood, orders_most_lem, process-good, answered-good}
+use Rattle.promise_invariant.proofs.Steps.{TurnGood, orders_most_lem, process_good, answered_good}
 
 -- nothing is told when an event is opened
 cleared_good : (ports : ℕ) (s : InternalState) → StateGood ports s → MemoryGood ports (remember s no_notices)
@@ -112,7 +112,7 @@ open_good s kind device detail r w h = go (eqb n 0) refl (eqb kind 5) refl
         below s.number (eqb kind 5) f q.number
         (last_not_refused (not_registered g.ports g.chargers kind device) (unknown_event kind detail) (is_open s.phase) (numbers_used kind s.number) e) in
         moved_good g s.number 0 (process_of g (remember s.memory.state no_notices) device (event_of kind detail) r) q.limits number (omega arith)
-        (process-good g q.limits r s.memory.state device (event_of kind detail) w (cleared_good g.ports s.memory.state q.stands.memory.state)
+        (process_good g q.limits r s.memory.state device (event_of kind detail) w (cleared_good g.ports s.memory.state q.stands.memory.state)
         (lt-ltb device g.ports (leb-false g.ports device port)))
 
     go : (a : Bool) → eqb n 0 ≡ a → (b : Bool) → eqb kind 5 ≡ b →
@@ -157,7 +157,7 @@ open_answered g number k p m o a r e h = subst Parts (sym (open_answer g number 
     go true = h
     go false =
         moved_good g number k t h.limits (ltb-true number largest (rw e at h.next)) (orders_most_lem h.stands)
-        (answered-good g h.limits r (outcome_of o (result_of a)) p m k (outcome_fits o (result_of a) (one_fits answers a refl)) h.stands)
+        (answered_good g h.limits r (outcome_of o (result_of a)) p m k (outcome_fits o (result_of a) (one_fits answers a refl)) h.stands)
 
 answered : (g : Registration) (number k : ℕ) (p : Phase) (m : Memory) (a : ℕ) (r : Records) →
     Parts (service g number k p m) → Parts (answer_of (service g number k p m) a r).service

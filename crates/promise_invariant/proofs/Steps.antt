@@ -159,11 +159,11 @@ orders_most_lem {ports} {chargers} {k} {p} h = omega (arith, most p h.fits, h.mo
 module _ (g : Registration) (limits : Limits g) (r : Records) where
   -- the update
 
-  closed-good : (a : Result) (m : Memory) (k : ℕ) → result_fits a ≡ true → MemoryGood g.ports m → k ≤ 3 + 4 * g.chargers → TurnGood g k (closed a m)
-  closed-good a m k e h l = record { fits = e; typed = tt; least = omega arith; most = omega arith; memory = h; told = refl }
+  closed_good : (a : Result) (m : Memory) (k : ℕ) → result_fits a ≡ true → MemoryGood g.ports m → k ≤ 3 + 4 * g.chargers → TurnGood g k (closed a m)
+  closed_good a m k e h l = record { fits = e; typed = tt; least = omega arith; most = omega arith; memory = h; told = refl }
 
-  finish-good : (m : Memory) (k : ℕ) → MemoryGood g.ports m → k ≤ 3 + 4 * g.chargers → TurnGood g k (finish_update_of g m r)
-  finish-good m k h l = closed-good Result.Ok _ k refl (go (same_unconstrained u m.state.unconstrained)) l
+  finish_good : (m : Memory) (k : ℕ) → MemoryGood g.ports m → k ≤ 3 + 4 * g.chargers → TurnGood g k (finish_update_of g m r)
+  finish_good m k h l = closed_good Result.Ok _ k refl (go (same_unconstrained u m.state.unconstrained)) l
     where
       u : UnconstrainedState
       u = unconstrained_of g m.state r
@@ -181,18 +181,18 @@ module _ (g : Registration) (limits : Limits g) (r : Records) where
             notices = record { provider = n.provider; granted = n.granted; disconnected = n.disconnected; connected = n.connected; typed = n.typed; unconstrained = few };
           }
 
-  connect-good : (a : Result) (m : Memory) (new : AvailableConsumer) (k : ℕ) → result_fits a ≡ true → MemoryGood g.ports m → ConsumerGood g.ports new →
+  connect_good : (a : Result) (m : Memory) (new : AvailableConsumer) (k : ℕ) → result_fits a ≡ true → MemoryGood g.ports m → ConsumerGood g.ports new →
       not_connected m.notices ≡ true → k ≤ 1 + g.chargers → TurnGood g k (connect_if a m new)
-  connect-good Result.Ok m new k e h c t l = record { fits = c.port; typed = c.capability; least = omega arith; most = omega arith; memory = h; told = t }
-  connect-good (Result.Err x) m new k e h c t l = closed-good (Result.Err x) m k e h (omega arith)
+  connect_good Result.Ok m new k e h c t l = record { fits = c.port; typed = c.capability; least = omega arith; most = omega arith; memory = h; told = t }
+  connect_good (Result.Err x) m new k e h c t l = closed_good (Result.Err x) m k e h (omega arith)
 
-  connect-psu-good : (m : Memory) (new : AvailableConsumer) (k : ℕ) → MemoryGood g.ports m → ConsumerGood g.ports new →
+  connect_psu_good : (m : Memory) (new : AvailableConsumer) (k : ℕ) → MemoryGood g.ports m → ConsumerGood g.ports new →
       not_connected m.notices ≡ true → k ≤ 1 + g.chargers → TurnGood g k (connect_psu_of m new r)
-  connect-psu-good m new k = connect-good (can_connect_consumer_of (psu_of r new.psu)) m new k (expect_fits idle_or_consumer (kind_of (psu_of r new.psu).psu_state) refl)
+  connect_psu_good m new k = connect_good (can_connect_consumer_of (psu_of r new.psu)) m new k (expect_fits idle_or_consumer (kind_of (psu_of r new.psu).psu_state) refl)
 
-  switch-good : (m : Memory) (i old : ℕ) (f : DisconnectFlags) (new : AvailableConsumer) (k : ℕ) → MemoryGood g.ports m → ltb old g.ports ≡ true → ConsumerGood g.ports new →
+  switch_good : (m : Memory) (i old : ℕ) (f : DisconnectFlags) (new : AvailableConsumer) (k : ℕ) → MemoryGood g.ports m → ltb old g.ports ≡ true → ConsumerGood g.ports new →
       not_updated m.notices ≡ true → k ≤ 1 + i → i ≤ g.chargers → TurnGood g k (switch_of g m i old f new r)
-  switch-good m i old f new k h o c t l b = go (ltb j g.chargers) refl
+  switch_good m i old f new k h o c t l b = go (ltb j g.chargers) refl
     where
       j : ℕ
       j = next_powered r (g.chargers - i) i
@@ -207,35 +207,35 @@ module _ (g : Registration) (limits : Limits g) (r : Records) where
         told = t;
       }
       go false e =
-          connect-psu-good (told_switch m old f new) new k
+          connect_psu_good (told_switch m old f new) new k
           (record { state = h.state; notices = told_disconnected g.ports old (reason_of old new f) m.notices o h.notices }) c
           (and_right (not_disconnected m.notices.disconnected) (not_connected m.notices) t)
           (omega arith)
 
-  disconnect-good : (m : Memory) (old : ℕ) (f : DisconnectFlags) (new : AvailableConsumer) → MemoryGood g.ports m → ltb old g.ports ≡ true → ConsumerGood g.ports new →
+  disconnect_good : (m : Memory) (old : ℕ) (f : DisconnectFlags) (new : AvailableConsumer) → MemoryGood g.ports m → ltb old g.ports ≡ true → ConsumerGood g.ports new →
       not_updated m.notices ≡ true → TurnGood g 0 (disconnect_of g m old f new r)
-  disconnect-good m old f new h o c t = go (is_connected_consumer (psu_of r old).psu_state)
+  disconnect_good m old f new h o c t = go (is_connected_consumer (psu_of r old).psu_state)
     where
       left : MemoryGood g.ports (cleared m)
       left = record { state = no_consumer_lem g.ports m.state h.state; notices = h.notices }
 
       go : (b : Bool) → TurnGood g 0 (cond b (at (Phase.Switching Leaver.Psu old f new) (cleared m)) (switch_of g (cleared m) 0 old f new r))
       go true = record { fits = both (ltb old g.ports) (ltb new.psu g.ports) o c.port; typed = c.capability; least = omega arith; most = omega arith; memory = left; told = t }
-      go false = switch-good (cleared m) 0 old f new 0 left o c t (omega arith) (omega arith)
+      go false = switch_good (cleared m) 0 old f new 0 left o c t (omega arith) (omega arith)
 
-  connect-from-good : (current : OptionAvailableConsumer) (m : Memory) (new : AvailableConsumer) (f : DisconnectFlags) → MemoryGood g.ports m → consumer_fits g.ports current ≡ true → ConsumerGood g.ports new →
+  connect_from_good : (current : OptionAvailableConsumer) (m : Memory) (new : AvailableConsumer) (f : DisconnectFlags) → MemoryGood g.ports m → consumer_fits g.ports current ≡ true → ConsumerGood g.ports new →
       not_updated m.notices ≡ true → TurnGood g 0 (connect_from current g m new f r)
-  connect-from-good OptionAvailableConsumer.None m new f h o c t =
-      connect-psu-good m new 0 h c (and_right (not_disconnected m.notices.disconnected) (not_connected m.notices) t) (omega arith)
-  connect-from-good (OptionAvailableConsumer.Some d) m new f h o c t = go (same_available d new)
+  connect_from_good OptionAvailableConsumer.None m new f h o c t =
+      connect_psu_good m new 0 h c (and_right (not_disconnected m.notices.disconnected) (not_connected m.notices) t) (omega arith)
+  connect_from_good (OptionAvailableConsumer.Some d) m new f h o c t = go (same_available d new)
     where
       go : (b : Bool) → TurnGood g 0 (cond b (finish_update_of g m r) (disconnect_of g m d.psu f new r))
-      go true = finish-good m 0 h (omega arith)
-      go false = disconnect-good m d.psu f new h o c t
+      go true = finish_good m 0 h (omega arith)
+      go false = disconnect_good m d.psu f new h o c t
 
-  leave-good : (m : Memory) (i p : ℕ) (f : DisconnectFlags) (k : ℕ) → MemoryGood g.ports m → ltb p g.ports ≡ true →
+  leave_good : (m : Memory) (i p : ℕ) (f : DisconnectFlags) (k : ℕ) → MemoryGood g.ports m → ltb p g.ports ≡ true →
       not_updated m.notices ≡ true → k ≤ i → i ≤ g.chargers → TurnGood g k (leave_of g m i p f r)
-  leave-good m i p f k h o t l b = go (ltb j g.chargers) refl
+  leave_good m i p f k h o t l b = go (ltb j g.chargers) refl
     where
       j : ℕ
       j = next_powered r (g.chargers - i) i
@@ -250,13 +250,13 @@ module _ (g : Registration) (limits : Limits g) (r : Records) where
         told = t;
       }
       go false e =
-          finish-good (left_of m p f) k
+          finish_good (left_of m p f) k
           (record { state = no_consumer_lem g.ports m.state h.state; notices = told_disconnected g.ports p f m.notices o h.notices })
           (omega arith)
 
-  charge-good : (m : Memory) (i : ℕ) (new : AvailableConsumer) (k : ℕ) → MemoryGood g.ports m → ConsumerGood g.ports new →
+  charge_good : (m : Memory) (i : ℕ) (new : AvailableConsumer) (k : ℕ) → MemoryGood g.ports m → ConsumerGood g.ports new →
       not_connected m.notices ≡ true → 2 + i ≤ k → k ≤ 3 + g.chargers + 3 * i → i ≤ g.chargers → TurnGood g k (charge_of g m i new r)
-  charge-good m i new k h c t least most b = go (ltb i g.chargers) refl (charger_unpowered r i)
+  charge_good m i new k h c t least most b = go (ltb i g.chargers) refl (charger_unpowered r i)
     where
       go : (b : Bool) → ltb i g.chargers ≡ b → (u : Bool) →
           TurnGood g k (cond b (at (Phase.Connecting (charge_stage u i) new) m) (finish_update_of g (told_connected m new) r))
@@ -265,17 +265,17 @@ module _ (g : Registration) (limits : Limits g) (r : Records) where
       go true e false =
           record { fits = both (ltb i g.chargers) (ltb new.psu g.ports) e c.port; typed = c.capability; least = omega arith; most = omega arith; memory = h; told = t }
       go false e u =
-          finish-good (told_connected m new) k (record { state = h.state; notices = told_connected_lem g.ports new m.notices c h.notices })
+          finish_good (told_connected m new) k (record { state = h.state; notices = told_connected_lem g.ports new m.notices c h.notices })
           (omega arith)
 
-  none-good : (current : OptionAvailableConsumer) (m : Memory) (f : DisconnectFlags) → MemoryGood g.ports m → consumer_fits g.ports current ≡ true →
+  none_good : (current : OptionAvailableConsumer) (m : Memory) (f : DisconnectFlags) → MemoryGood g.ports m → consumer_fits g.ports current ≡ true →
       not_updated m.notices ≡ true → TurnGood g 0 (update_none current g m f r)
-  none-good OptionAvailableConsumer.None m f h o t = finish-good m 0 h (omega arith)
-  none-good (OptionAvailableConsumer.Some c) m f h o t = leave-good m 0 c.psu f 0 h o t (omega arith) (omega arith)
+  none_good OptionAvailableConsumer.None m f h o t = finish_good m 0 h (omega arith)
+  none_good (OptionAvailableConsumer.Some c) m f h o t = leave_good m 0 c.psu f 0 h o t (omega arith) (omega arith)
 
   -- the best consumer is of a registered port
-  chosen-good : (m : Memory) → RecordsFit r → (c : AvailableConsumer) → find_best_consumer g m.state r ≡ OptionAvailableConsumer.Some c → ConsumerGood g.ports c
-  chosen-good m w c e = record { port = lt-ltb c.psu g.ports (below (rw e at x)); capability = and_right (leb c.psu 15) (capability_fits c.consumer_power_capability.capability) (rw e at y) }
+  chosen_good : (m : Memory) → RecordsFit r → (c : AvailableConsumer) → find_best_consumer g m.state r ≡ OptionAvailableConsumer.Some c → ConsumerGood g.ports c
+  chosen_good m w c e = record { port = lt-ltb c.psu g.ports (below (rw e at x)); capability = and_right (leb c.psu 15) (capability_fits c.consumer_power_capability.capability) (rw e at y) }
     where
       x : Chosen g.config.min_consumer_threshold_mw m.state.current_consumer_state r.psus (min 16 g.ports) (find_best_consumer g m.state r)
       x = chosen g.config.min_consumer_threshold_mw m.state.current_consumer_state r.psus (min 16 g.ports)
@@ -286,35 +286,35 @@ module _ (g : Registration) (limits : Limits g) (r : Records) where
       below : Chosen g.config.min_consumer_threshold_mw m.state.current_consumer_state r.psus (min 16 g.ports) (OptionAvailableConsumer.Some c) → c.psu < g.ports
       below b = omega (arith, b.offer.registered, min-le_right 16 g.ports)
 
-  update-good : (m : Memory) (f : DisconnectFlags) → RecordsFit r → MemoryGood g.ports m → not_updated m.notices ≡ true → TurnGood g 0 (update_of g m f r)
-  update-good m f w h t = go (find_best_consumer g m.state r) refl
+  update_good : (m : Memory) (f : DisconnectFlags) → RecordsFit r → MemoryGood g.ports m → not_updated m.notices ≡ true → TurnGood g 0 (update_of g m f r)
+  update_good m f w h t = go (find_best_consumer g m.state r) refl
     where
       go : (best : OptionAvailableConsumer) → find_best_consumer g m.state r ≡ best → TurnGood g 0 (update_to best g m f r)
-      go OptionAvailableConsumer.None e = none-good m.state.current_consumer_state m f h h.state.consumer t
-      go (OptionAvailableConsumer.Some new) e = connect-from-good m.state.current_consumer_state m new f h h.state.consumer (chosen-good m w new e) t
+      go OptionAvailableConsumer.None e = none_good m.state.current_consumer_state m f h h.state.consumer t
+      go (OptionAvailableConsumer.Some new) e = connect_from_good m.state.current_consumer_state m new f h h.state.consumer (chosen_good m w new e) t
 
   -- providers
 
-  provide-if-good : (a : Result) (m : Memory) (p : ℕ) (c : ProviderPowerCapability) → result_fits a ≡ true → MemoryGood g.ports m → ltb p g.ports ≡ true → capability_fits c.capability ≡ true →
+  provide_if_good : (a : Result) (m : Memory) (p : ℕ) (c : ProviderPowerCapability) → result_fits a ≡ true → MemoryGood g.ports m → ltb p g.ports ≡ true → capability_fits c.capability ≡ true →
       nothing_told m.notices ≡ true → TurnGood g 0 (provide_if a m p c)
-  provide-if-good Result.Ok m p c e h o f t = record { fits = o; typed = f; least = omega arith; most = omega arith; memory = h; told = t }
-  provide-if-good (Result.Err x) m p c e h o f t = closed-good (Result.Err x) m 0 e h (omega arith)
+  provide_if_good Result.Ok m p c e h o f t = record { fits = o; typed = f; least = omega arith; most = omega arith; memory = h; told = t }
+  provide_if_good (Result.Err x) m p c e h o f t = closed_good (Result.Err x) m 0 e h (omega arith)
 
-  provide-good : (q : OptionProviderPowerCapability) (m : Memory) (p : ℕ) → RequestFits q → MemoryGood g.ports m → ltb p g.ports ≡ true →
+  provide_good : (q : OptionProviderPowerCapability) (m : Memory) (p : ℕ) → RequestFits q → MemoryGood g.ports m → ltb p g.ports ≡ true →
       nothing_told m.notices ≡ true → TurnGood g 0 (provide_for q g m p r)
-  provide-good OptionProviderPowerCapability.None m p w h o t = closed-good Result.Ok m 0 refl h (omega arith)
-  provide-good (OptionProviderPowerCapability.Some q) m p w h o t =
+  provide_good OptionProviderPowerCapability.None m p w h o t = closed_good Result.Ok m 0 refl h (omega arith)
+  provide_good (OptionProviderPowerCapability.Some q) m p w h o t =
       let s = power_state_of g.config (total_with p q r.psus (min 16 g.ports)) in
-      provide-if-good (can_connect_provider_of (psu_of r p)) (remember (with_power_state s m.state) m.notices) p (grant_of g.config s q)
+      provide_if_good (can_connect_provider_of (psu_of r p)) (remember (with_power_state s m.state) m.notices) p (grant_of g.config s q)
       (expect_fits idle_or_provider (kind_of (psu_of r p).psu_state) refl)
       (record { state = with_power g.ports s m.state h.state; notices = h.notices })
       o
       (grant_fits g.config s q limits.config w)
       t
 
-  provided-good : (m : Memory) (p : ℕ) (c : ProviderPowerCapability) → MemoryGood g.ports m → ltb p g.ports ≡ true → capability_fits c.capability ≡ true →
+  provided_good : (m : Memory) (p : ℕ) (c : ProviderPowerCapability) → MemoryGood g.ports m → ltb p g.ports ≡ true → capability_fits c.capability ≡ true →
       MemoryGood g.ports (post_provider_of m p c)
-  provided-good m p c h o f =
+  provided_good m p c h o f =
       let t = m.state.connected_providers in
       let n = h.notices in
       record {
@@ -325,8 +325,8 @@ module _ (g : Registration) (limits : Limits g) (r : Records) where
         notices = record { provider = o; granted = f; disconnected = n.disconnected; connected = n.connected; typed = n.typed; unconstrained = n.unconstrained };
       }
 
-  removal-good : (m : Memory) (p : ℕ) → MemoryGood g.ports m → ltb p g.ports ≡ true → MemoryGood g.ports (remove_provider_of g m p r)
-  removal-good m p h o = go (remove_of t p).found
+  removal_good : (m : Memory) (p : ℕ) → MemoryGood g.ports m → ltb p g.ports ≡ true → MemoryGood g.ports (remove_provider_of g m p r)
+  removal_good m p h o = go (remove_of t p).found
     where
       t : Providers
       t = m.state.connected_providers
@@ -351,31 +351,31 @@ module _ (g : Registration) (limits : Limits g) (r : Records) where
 
   -- the event
 
-  removal-tells : (s : InternalState) (p : ℕ) → not_updated (remove_provider_of g (remember s no_notices) p r).notices ≡ true
-  removal-tells s p = go (remove_of s.connected_providers p).found _
+  removal_tells : (s : InternalState) (p : ℕ) → not_updated (remove_provider_of g (remember s no_notices) p r).notices ≡ true
+  removal_tells s p = go (remove_of s.connected_providers p).found _
     where
       go : (b : Bool) (x : InternalState) → not_updated (cond {A = Memory} b (remember x (tell_provider (ProviderNotice.Disconnected p) no_notices)) (remember s no_notices)).notices ≡ true
       go true x = refl
       go false x = refl
 
-  depart-good : (s : InternalState) (p : ℕ) (f : DisconnectFlags) → RecordsFit r → MemoryGood g.ports (remember s no_notices) → ltb p g.ports ≡ true → TurnGood g 0 (depart_of g (remember s no_notices) p f r)
-  depart-good s p f w h o = update-good (remove_provider_of g (remember s no_notices) p r) f w (removal-good (remember s no_notices) p h o) (removal-tells s p)
+  depart_good : (s : InternalState) (p : ℕ) (f : DisconnectFlags) → RecordsFit r → MemoryGood g.ports (remember s no_notices) → ltb p g.ports ≡ true → TurnGood g 0 (depart_of g (remember s no_notices) p f r)
+  depart_good s p f w h o = update_good (remove_provider_of g (remember s no_notices) p r) f w (removal_good (remember s no_notices) p h o) (removal_tells s p)
 
-  pub process-good : (s : InternalState) (p : ℕ) (e : EventData) → RecordsFit r → MemoryGood g.ports (remember s no_notices) → ltb p g.ports ≡ true → TurnGood g 0 (process_of g (remember s no_notices) p e r)
-  process-good s p EventData.Attached w h o = closed-good Result.Ok (remember s no_notices) 0 refl h (omega arith)
-  process-good s p EventData.UpdatedConsumerCapability w h o = update-good (remember s no_notices) no_reason w h refl
-  process-good s p EventData.RequestedProviderCapability w h o =
-      provide-good (psu_of r p).requested_provider_capability (remember s no_notices) p (psu_fits r p w).1 h o refl
-  process-good s p (EventData.Disconnected f) w h o = depart-good s p f w h o
-  process-good s p EventData.Detached w h o = depart-good s p detached_reason w h o
+  pub process_good : (s : InternalState) (p : ℕ) (e : EventData) → RecordsFit r → MemoryGood g.ports (remember s no_notices) → ltb p g.ports ≡ true → TurnGood g 0 (process_of g (remember s no_notices) p e r)
+  process_good s p EventData.Attached w h o = closed_good Result.Ok (remember s no_notices) 0 refl h (omega arith)
+  process_good s p EventData.UpdatedConsumerCapability w h o = update_good (remember s no_notices) no_reason w h refl
+  process_good s p EventData.RequestedProviderCapability w h o =
+      provide_good (psu_of r p).requested_provider_capability (remember s no_notices) p (psu_fits r p w).1 h o refl
+  process_good s p (EventData.Disconnected f) w h o = depart_good s p f w h o
+  process_good s p EventData.Detached w h o = depart_good s p detached_reason w h o
 
   -- the answer to an order: no new consumer is chosen, so the records need not fit
 
   follow : (i : ℕ) → i < g.chargers → following i ≡ suc i
   follow i l = rw (lt-ltb i 255 (omega (arith, limits.chargers)))
 
-  stage-good : (s : Stage) (new : AvailableConsumer) (m : Memory) (k : ℕ) → At g.ports g.chargers k (Phase.Connecting s new) m → TurnGood g k (after_stage g m s new r)
-  stage-good Stage.Psu new m k h = record {
+  stage_good : (s : Stage) (new : AvailableConsumer) (m : Memory) (k : ℕ) → At g.ports g.chargers k (Phase.Connecting s new) m → TurnGood g k (after_stage g m s new r)
+  stage_good Stage.Psu new m k h = record {
     fits = h.fits;
     typed = h.typed;
     least = omega (arith, h.least);
@@ -383,16 +383,16 @@ module _ (g : Registration) (limits : Limits g) (r : Records) where
     memory = record { state = with_consumer_lem g.ports (OptionAvailableConsumer.Some new) m.state h.fits h.typed h.memory.state; notices = h.memory.notices };
     told = h.told;
   }
-  stage-good Stage.Settling new m k h =
-      charge-good m 0 new k h.memory (record { port = h.fits; capability = h.typed }) h.told (omega (arith, h.least)) (omega (arith, h.most)) (omega arith)
-  stage-good (Stage.Readying i) new m k h =
+  stage_good Stage.Settling new m k h =
+      charge_good m 0 new k h.memory (record { port = h.fits; capability = h.typed }) h.told (omega (arith, h.least)) (omega (arith, h.most)) (omega arith)
+  stage_good (Stage.Readying i) new m k h =
       record { fits = h.fits; typed = h.typed; least = omega (arith, h.least); most = omega (arith, h.most); memory = h.memory; told = h.told }
-  stage-good (Stage.Initializing i) new m k h =
+  stage_good (Stage.Initializing i) new m k h =
       record { fits = h.fits; typed = h.typed; least = omega (arith, h.least); most = omega (arith, h.most); memory = h.memory; told = h.told }
-  stage-good (Stage.Attaching i) new m k h =
+  stage_good (Stage.Attaching i) new m k h =
       let l : i < g.chargers = ltb-true i g.chargers (and_left (ltb i g.chargers) (ltb new.psu g.ports) h.fits) in
       rw (follow i l)
-      (charge-good m (suc i) new k h.memory
+      (charge_good m (suc i) new k h.memory
       (record { port = and_right (ltb i g.chargers) (ltb new.psu g.ports) h.fits; capability = h.typed })
       h.told
       (omega (arith, h.least))
@@ -400,13 +400,13 @@ module _ (g : Registration) (limits : Limits g) (r : Records) where
       (omega (arith, l)))
 
   after_good : (p : Phase) (m : Memory) (k : ℕ) → At g.ports g.chargers k p m → TurnGood g k (after_order g p m r)
-  after_good (Phase.Closed a) m k h = closed-good a m k h.fits h.memory h.most
+  after_good (Phase.Closed a) m k h = closed_good a m k h.fits h.memory h.most
   after_good (Phase.Leaving i p f) m k h =
       let l : i < g.chargers = ltb-true i g.chargers (and_left (ltb i g.chargers) (ltb p g.ports) h.fits) in
       rw (follow i l)
-      (leave-good m (suc i) p f k h.memory (and_right (ltb i g.chargers) (ltb p g.ports) h.fits) h.told (omega (arith, h.most)) (omega (arith, l)))
+      (leave_good m (suc i) p f k h.memory (and_right (ltb i g.chargers) (ltb p g.ports) h.fits) h.told (omega (arith, h.most)) (omega (arith, l)))
   after_good (Phase.Switching Leaver.Psu old f new) m k h =
-      switch-good m 0 old f new k h.memory (and_left (ltb old g.ports) (ltb new.psu g.ports) h.fits)
+      switch_good m 0 old f new k h.memory (and_left (ltb old g.ports) (ltb new.psu g.ports) h.fits)
       (record { port = and_right (ltb old g.ports) (ltb new.psu g.ports) h.fits; capability = h.typed })
       h.told
       (omega (arith, h.most))
@@ -415,15 +415,15 @@ module _ (g : Registration) (limits : Limits g) (r : Records) where
       let l : i < g.chargers = ltb-true i g.chargers (and_left (ltb i g.chargers) (ltb old g.ports && ltb new.psu g.ports) h.fits) in
       let o : ltb old g.ports && ltb new.psu g.ports ≡ true = and_right (ltb i g.chargers) (ltb old g.ports && ltb new.psu g.ports) h.fits in
       rw (follow i l)
-      (switch-good m (suc i) old f new k h.memory (and_left (ltb old g.ports) (ltb new.psu g.ports) o)
+      (switch_good m (suc i) old f new k h.memory (and_left (ltb old g.ports) (ltb new.psu g.ports) o)
       (record { port = and_right (ltb old g.ports) (ltb new.psu g.ports) o; capability = h.typed })
       h.told
       (omega (arith, h.most))
       (omega (arith, l)))
-  after_good (Phase.Connecting s new) m k h = stage-good s new m k h
-  after_good (Phase.Providing p c) m k h = closed-good Result.Ok (post_provider_of m p c) k refl (provided-good m p c h.memory h.fits h.typed) (omega (arith, h.most))
+  after_good (Phase.Connecting s new) m k h = stage_good s new m k h
+  after_good (Phase.Providing p c) m k h = closed_good Result.Ok (post_provider_of m p c) k refl (provided_good m p c h.memory h.fits h.typed) (omega (arith, h.most))
 
   -- an error closes the event where it stands
-  pub answered-good : (a : Result) (p : Phase) (m : Memory) (k : ℕ) → result_fits a ≡ true → At g.ports g.chargers k p m → TurnGood g k (answered_to a g p m r)
-  answered-good Result.Ok p m k e h = after_good p m k h
-  answered-good (Result.Err x) p m k e h = closed-good (Result.Err x) m k e h.memory (orders_most_lem h)
+  pub answered_good : (a : Result) (p : Phase) (m : Memory) (k : ℕ) → result_fits a ≡ true → At g.ports g.chargers k p m → TurnGood g k (answered_to a g p m r)
+  answered_good Result.Ok p m k e h = after_good p m k h
+  answered_good (Result.Err x) p m k e h = closed_good (Result.Err x) m k e h.memory (orders_most_lem h)

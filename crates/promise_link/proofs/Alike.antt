@@ -28,16 +28,16 @@ use Rattle.desk_follower.specs.WellFormed.{Within, WellFormedAt, WellFormed, Rea
 use Rattle.desk_follower.specs.declared.Follower.{Follower}
 use Rattle.desk_follower.specs.declared.Shown.{Shown}
 use Rattle.desk_follower.specs.declared.held.Held.{Held}
-use Rattle.desk_follower.proofs.Floor.{placed-floor}
+use Rattle.desk_follower.proofs.Floor.{placed_floor}
 use Rattle.desk_follower.proofs.Kept.{mod8, nothing_within, go_within, event_within, picture_within, fresh_kept, take_kept}
-use Rattle.desk_follower.proofs.Laws.{event-old, event-held, event-new, event-beyond, picture-old, picture-new}
+use Rattle.desk_follower.proofs.Laws.{event_old, event_held, event_new, event_beyond, picture_old, picture_new}
 use Rattle.promise_link.specs.Alike.{one, held_from, seen_at, seen, Rising, Alike}
 use Rattle.promise_link.specs.Link.{follower_after}
 use Rattle.promise_link.specs.Takes.{taken_read, take_bytes, takes_bytes}
 use Rattle.promise_link.proofs.Places.{Has, has_bounds}
 use Rattle.promise_link.proofs.Lists.{readable}
-use Rattle.promise_link.proofs.Ring.{one_none, one_below, from_next, short, none_from, dropped_from, one-there, one-here, after-here}
-use Rattle.promise_link.proofs.Order.{held-again, put-from, held-least, greatest-is, greatest-above, above_from}
+use Rattle.promise_link.proofs.Ring.{one_none, one_below, from_next, short, none_from, dropped_from, one_there, one_here, after_here}
+use Rattle.promise_link.proofs.Order.{held_again, put-from, held-least, greatest-is, greatest_above, above_from}
 
 -- in turn
 
@@ -107,18 +107,18 @@ module _ (s : Picture) (h : Held) (e : EventPacket) (w : Within (s.number + 2) (
       (cond (q i) (paper.in_turn (paper.greatest e.number waiting) s.number s.display (e ∷ waiting))
       (cond (o i) (paper.showing s.number s.display (paper.held_with e waiting)) (paper.lost (paper.greatest e.number waiting))))
 
-  floor-is : greatest e.number 8 h ≡ paper.greatest e.number waiting
-  floor-is = greatest-is e.number h (s.number + 2) (s.number + 8) (s.number + 2) 7 w (omega arith) (omega arith)
+  floor_is : greatest e.number 8 h ≡ paper.greatest e.number waiting
+  floor_is = greatest-is e.number h (s.number + 2) (s.number + 8) (s.number + 2) 7 w (omega arith) (omega arith)
 
-  placed-is : s.number < e.number → e.number ≤ s.number + 8 → (Has h e.number → ⊥) →
+  placed_is : s.number < e.number → e.number ≤ s.number + 8 → (Has h e.number → ⊥) →
       seen (taken (showing s h) (Packet.Event e)) ≡ paper.in_turn (greatest s.number 8 (placed h e)) s.number s.display (held_from (placed h e) (s.number + 1) 8)
-  placed-is l u new = ap seen (event-new s h e l u new) ∙ settled_is s (placed h e) (event_within s.number h e l u r w)
+  placed_is l u new = ap seen (event_new s h e l u new) ∙ settled_is s (placed h e) (event_within s.number h e l u r w)
 
   -- n + 1
   next : e.number ≡ s.number + 1 →
       seen (taken (showing s h) (Packet.Event e)) ≡ paper.in_turn (paper.greatest e.number waiting) s.number s.display (e ∷ waiting)
   next q =
-      placed-is l u new
+      placed_is l u new
       ∙ (ap (λ (x : ℕ). paper.in_turn x s.number s.display (held_from (placed h e) (s.number + 1) 8)) floor
       ∙ ap (λ (x : List EventPacket). paper.in_turn (paper.greatest e.number waiting) s.number s.display x) list)
     where
@@ -133,25 +133,25 @@ module _ (s : Picture) (h : Held) (e : EventPacket) (w : Within (s.number + 2) (
 
       floor : greatest s.number 8 (placed h e) ≡ paper.greatest e.number waiting
       floor =
-          placed-floor s.number h e l u w new
-          ∙ (ap (λ (x : ℕ). greatest x 8 h) (max-eq_right {n = s.number} {m = e.number} (omega (arith, q))) ∙ floor-is)
+          placed_floor s.number h e l u w new
+          ∙ (ap (λ (x : ℕ). greatest x 8 h) (max-eq_right {n = s.number} {m = e.number} (omega (arith, q))) ∙ floor_is)
 
       here : one (placed h e) (s.number + 1) ≡ e ∷ []
-      here = subst (λ (x : ℕ). one (placed h e) x ≡ e ∷ []) q (one-here s.number h e l u w.0)
+      here = subst (λ (x : ℕ). one (placed h e) x ≡ e ∷ []) q (one_here s.number h e l u w.0)
 
       list : held_from (placed h e) (s.number + 1) 8 ≡ e ∷ waiting
       list =
           let p : s.number + 1 + 1 ≡ s.number + 2 = omega arith in
           from_next (placed h e) (s.number + 1) 7
           ∙ (ap (λ (x : List EventPacket). x ++ held_from (placed h e) (s.number + 1 + 1) 7) here
-          ∙ (ap (λ (x : List EventPacket). e ∷ x) (after-here s.number h e l u (s.number + 1 + 1) 7 (omega (arith, q)) (omega arith))
+          ∙ (ap (λ (x : List EventPacket). e ∷ x) (after_here s.number h e l u (s.number + 1 + 1) 7 (omega (arith, q)) (omega arith))
           ∙ ap (λ (x : ℕ). e ∷ held_from h x 7) p))
 
   -- n + 2 to n + 8, not held yet
   waits : s.number + 2 ≤ e.number → e.number ≤ s.number + 8 → (Has h e.number → ⊥) →
       seen (taken (showing s h) (Packet.Event e)) ≡ paper.showing s.number s.display (paper.held_with e waiting)
   waits a u new =
-      placed-is l u new
+      placed_is l u new
       ∙ (ap (λ (x : List EventPacket). paper.in_turn (greatest s.number 8 (placed h e)) s.number s.display x) list
       ∙ (stays (greatest s.number 8 (placed h e)) s.number s.display (placed h e) 7 (s.number + 2) (omega arith)
       ∙ ap (λ (x : List EventPacket). paper.showing s.number s.display x)
@@ -162,7 +162,7 @@ module _ (s : Picture) (h : Held) (e : EventPacket) (w : Within (s.number + 2) (
 
       here : one (placed h e) (s.number + 1) ≡ []
       here =
-          one-there s.number h e l u (s.number + 1) (omega arith) (omega arith) (λ q. absurd (omega (arith, q, a)))
+          one_there s.number h e l u (s.number + 1) (omega arith) (omega arith) (λ q. absurd (omega (arith, q, a)))
           ∙ one_below (s.number + 2) (s.number + 8) h (s.number + 1) w (omega arith) (omega arith)
 
       list : held_from (placed h e) (s.number + 1) 8 ≡ held_from (placed h e) (s.number + 2) 7
@@ -173,29 +173,29 @@ module _ (s : Picture) (h : Held) (e : EventPacket) (w : Within (s.number + 2) (
           ∙ ap (λ (x : ℕ). held_from (placed h e) x 7) p)
 
   -- n + 2 to n + 8, held or not
-  waits-tested : s.number + 2 ≤ e.number → e.number ≤ s.number + 8 → (t : Bool) → holds h e.number ≡ t →
+  waits_tested : s.number + 2 ≤ e.number → e.number ≤ s.number + 8 → (t : Bool) → holds h e.number ≡ t →
       seen (taken (showing s h) (Packet.Event e)) ≡ paper.showing s.number s.display (paper.held_with e waiting)
-  waits-tested a u true t =
-      ap seen (event-held s h e (omega (arith, a)) u (eqb-true _ _ t))
+  waits_tested a u true t =
+      ap seen (event_held s h e (omega (arith, a)) u (eqb-true _ _ t))
       ∙ ap (λ (x : List EventPacket). paper.showing s.number s.display x)
-      (sym (held-again e h (eqb-true _ _ t) 7 (s.number + 2) a (omega (arith, u))))
-  waits-tested a u false t = waits a u (eqb-false _ _ t)
+      (sym (held_again e h (eqb-true _ _ t) 7 (s.number + 2) a (omega (arith, u))))
+  waits_tested a u false t = waits a u (eqb-false _ _ t)
 
-  event-alike : seen (taken (showing s h) (Packet.Event e)) ≡ paper.taken_event s.number s.display waiting e
-  event-alike =
+  event_alike : seen (taken (showing s h) (Packet.Event e)) ≡ paper.taken_event s.number s.display waiting e
+  event_alike =
       go (leb e.number s.number) refl (eqb e.number (s.number + 1)) refl (leb e.number (s.number + 8)) refl
     where
       go : (x : Bool) → leb e.number s.number ≡ x → (y : Bool) → eqb e.number (s.number + 1) ≡ y → (z : Bool) → leb e.number (s.number + 8) ≡ z →
           seen (taken (showing s h) (Packet.Event e)) ≡ paper.taken_event s.number s.display waiting e
-      go true p y q z o = ap seen (event-old s h e (leb-true _ _ p)) ∙ sym (tests true y z p q o)
+      go true p y q z o = ap seen (event_old s h e (leb-true _ _ p)) ∙ sym (tests true y z p q o)
       go false p true q z o = next (eqb-true _ _ q) ∙ sym (tests false true z p q o)
       go false p false q true o =
           let a : s.number < e.number = leb-false _ _ p in
           let b : e.number ≡ s.number + 1 → ⊥ = eqb-false _ _ q in
-          waits-tested (omega (arith, a, b)) (leb-true _ _ o) (holds h e.number) refl ∙ sym (tests false false true p q o)
+          waits_tested (omega (arith, a, b)) (leb-true _ _ o) (holds h e.number) refl ∙ sym (tests false false true p q o)
       go false p false q false o =
-          ap seen (event-beyond s h e (leb-false _ _ o))
-          ∙ (ap (λ (x : ℕ). paper.lost x) floor-is ∙ sym (tests false false false p q o))
+          ap seen (event_beyond s h e (leb-false _ _ o))
+          ∙ (ap (λ (x : ℕ). paper.lost x) floor_is ∙ sym (tests false false false p q o))
 
 -- showing n, a picture
 
@@ -211,7 +211,7 @@ picture_alike s h p w = go (leb p.number s.number) refl
   where
     go : (x : Bool) → leb p.number s.number ≡ x →
         seen (taken (showing s h) (Packet.Picture p)) ≡ paper.taken_picture s.number s.display (held_from h (s.number + 2) 7) p
-    go true x = ap seen (picture-old s h p (leb-true _ _ x)) ∙ sym (picture_tests s.number s.display (held_from h (s.number + 2) 7) p true x)
+    go true x = ap seen (picture_old s h p (leb-true _ _ x)) ∙ sym (picture_tests s.number s.display (held_from h (s.number + 2) 7) p true x)
     go false x =
         let l : s.number < p.number = leb-false _ _ x in
         let v : Within (p.number + 1) (p.number + 8) (above p.number 8 h) = picture_within s.number p.number h l w in
@@ -219,8 +219,8 @@ picture_alike s h p w = go (leb p.number s.number) refl
         above_from s.number p.number h l w in
         let floor : greatest p.number 8 (above p.number 8 h) ≡ paper.greatest p.number (held_from h (s.number + 2) 7) =
         greatest-is p.number (above p.number 8 h) (p.number + 1) (p.number + 8) (p.number + 1) 8 v (omega arith) (omega arith)
-        ∙ (ap (λ (y : List EventPacket). paper.greatest p.number y) list ∙ greatest-above p.number (held_from h (s.number + 2) 7)) in
-        ap seen (picture-new s h p l)
+        ∙ (ap (λ (y : List EventPacket). paper.greatest p.number y) list ∙ greatest_above p.number (held_from h (s.number + 2) 7)) in
+        ap seen (picture_new s h p l)
         ∙ (settled_is p (above p.number 8 h) v
         ∙ (ap (λ (y : ℕ). paper.in_turn y p.number p.display (held_from (above p.number 8 h) (p.number + 1) 8)) floor
         ∙ (ap (λ (y : List EventPacket). paper.in_turn (paper.greatest p.number (held_from h (s.number + 2) 7)) p.number p.display y) list
@@ -245,7 +245,7 @@ lost_picture floor h p = go (ltb p.number floor) refl
 taken_at_lem : (x : Shown) (h : Held) (p : Packet) → WellFormedAt x h → Readable p → seen (taken_at x h p) ≡ paper.taken (seen_at x h) p
 taken_at_lem (Shown.Lost floor) h (Packet.Event e) w r = refl
 taken_at_lem (Shown.Lost floor) h (Packet.Picture p) w r = lost_picture floor h p
-taken_at_lem (Shown.Picture s) h (Packet.Event e) w r = event-alike s h e w.1 r
+taken_at_lem (Shown.Picture s) h (Packet.Event e) w r = event_alike s h e w.1 r
 taken_at_lem (Shown.Picture s) h (Packet.Picture p) w r = picture_alike s h p w.1
 
 taken_alike : (f : Follower) (p : Packet) → WellFormed f → Readable p → seen (taken f p) ≡ paper.taken (seen f) p
@@ -281,14 +281,14 @@ none_held_lem (suc k) h e i l = go (none_held k h) refl (eqb (packet_at h k).num
     go false p y q r z t s = absurd (let o : ◌≡◌ {A = ℕ} 0 1 = cc in omega arith)
 
 module _ (s : Picture) (h : Held) (w : Within (s.number + 2) (s.number + 8) h) where
-  none-waits : none_held 8 h ≡ true → held_from h (s.number + 2) 7 ≡ []
+  none_waits : none_held 8 h ≡ true → held_from h (s.number + 2) 7 ≡ []
   unfolding held_from
-  none-waits e =
+  none_waits e =
       short h 7 zero (s.number + 2) (omega arith)
       (λ m l. one_none h m (λ has. absurd (omega (arith, l, has, none_held_lem 8 h e (m % 8) (mod8 m)))))
 
-  some-wait : none_held 8 h ≡ false → held_from h (s.number + 2) 7 ≡ [] → ⊥
-  some-wait e z =
+  some_wait : none_held 8 h ≡ false → held_from h (s.number + 2) 7 ≡ [] → ⊥
+  some_wait e z =
       let v = some_held 8 h e in
       ⊎_elim (λ q. v.2 (ap (λ (p : EventPacket). p.number) q))
       (λ q.
@@ -297,17 +297,17 @@ module _ (s : Picture) (h : Held) (w : Within (s.number + 2) (s.number + 8) h) w
       absurd (omega (arith, a, b, q.0)))
       (w.1 v.0 v.1)
 
-  listed-state : (l : List EventPacket) → (t : Bool) → (t ≡ true → l ≡ []) → (t ≡ false → l ≡ [] → ⊥) →
+  listed_state : (l : List EventPacket) → (t : Bool) → (t ≡ true → l ≡ []) → (t ≡ false → l ≡ [] → ⊥) →
       cond t State.Level State.Waiting ≡ paper.state (paper.showing s.number s.display l)
-  listed-state [] true a b = refl
-  listed-state [] false a b = absurd (b refl refl)
-  listed-state (e ∷ l) true a b = absurd (let q : e ∷ l ≡ [] = a refl in let o : ◌≡◌ {A = ℕ} 0 1 = cc in omega arith)
-  listed-state (e ∷ l) false a b = refl
+  listed_state [] true a b = refl
+  listed_state [] false a b = absurd (b refl refl)
+  listed_state (e ∷ l) true a b = absurd (let q : e ∷ l ≡ [] = a refl in let o : ◌≡◌ {A = ℕ} 0 1 = cc in omega arith)
+  listed_state (e ∷ l) false a b = refl
 
 state_at_lem : (x : Shown) (h : Held) → WellFormedAt x h → state_at x (none_held 8 h) ≡ paper.state (seen_at x h)
 state_at_lem (Shown.Lost floor) h w = refl
 state_at_lem (Shown.Picture s) h w =
-    listed-state s h w.1 (held_from h (s.number + 2) 7) (none_held 8 h) (none-waits s h w.1) (some-wait s h w.1)
+    listed_state s h w.1 (held_from h (s.number + 2) 7) (none_held 8 h) (none_waits s h w.1) (some_wait s h w.1)
 
 -- what is shown
 

@@ -21,7 +21,7 @@ use Rattle.desk_follower.proofs.Kept.{mod8, picture_within, event_within, seen, 
 use Rattle.desk_follower.proofs.Laws.{greatest_base, greatest_held, above_stays}
 use Rattle.promise_link.specs.Source.{Source}
 use Rattle.promise_link.proofs.Places.{AllHeld, all_nothing, all_map, all_put, all_above, all_has, Has, has_bounds, placed_here, placed_there}
-use Rattle.promise_link.proofs.Turns.{Known, Upper, Reached, Waits, GoodAt, Good, upper-held, reached-held, settled_good, ShownFrom, NoErrors, turn-shown, from_less}
+use Rattle.promise_link.proofs.Turns.{Known, Upper, Reached, Waits, GoodAt, Good, upper_held, reached_held, settled_good, ShownFrom, NoErrors, turn_shown, from_less}
 
 -- the event packets met, with one more
 abbrev pub With : (EventPacket → Type 0) → EventPacket → EventPacket → Type 0
@@ -64,12 +64,12 @@ module _ (source : Source) (Seen : EventPacket → Type 0) where
     where
       upper : Upper source (With Seen e) (greatest e.number 8 h)
       upper x m =
-          ⊎_elim (λ k. upper-held source Seen e.number s.number h (omega (arith, l)) g.2 x k)
+          ⊎_elim (λ k. upper_held source Seen e.number s.number h (omega (arith, l)) g.2 x k)
           (λ q. let n : x.number ≡ e.number = ap (λ (z : EventPacket). z.number) q in omega (arith, n, greatest_base e.number 8 h)) m
 
       go : (t : Bool) → ltb e.number (greatest e.number 8 h) ≡ t → Reached source (With Seen e) (greatest e.number 8 h)
       go true t =
-          let q = reached-held source Seen e.number h g.1 (ltb-true _ _ t) in
+          let q = reached_held source Seen e.number h g.1 (ltb-true _ _ t) in
           (q.0, inl q.1, q.2)
       go false t = (e, inr refl, omega (arith, ltb-false e.number (greatest e.number 8 h) t, greatest_base e.number 8 h))
 
@@ -96,9 +96,9 @@ module _ (source : Source) (Seen : EventPacket → Type 0) where
           (λ q. absurd (eqb-false _ _ t (ap (λ (z : EventPacket). z.number) q)))
           k
 
-  event-good : (s : Picture) (h : Held) (e : EventPacket) → Within (s.number + 2) (s.number + 8) h → Readable (Packet.Event e) → source.Written (Packet.Event e) →
+  event_good : (s : Picture) (h : Held) (e : EventPacket) → Within (s.number + 2) (s.number + 8) h → Readable (Packet.Event e) → source.Written (Packet.Event e) →
       GoodAt source Seen (Shown.Picture s) h → Good source (With Seen e) (taken_event s h e)
-  event-good s h e w r wr g = go (leb e.number s.number) refl (ltb (s.number + 8) e.number) refl (holds h e.number) refl
+  event_good s h e w r wr g = go (leb e.number s.number) refl (ltb (s.number + 8) e.number) refl (holds h e.number) refl
     where
       go : (x : Bool) → leb e.number s.number ≡ x → (y : Bool) → ltb (s.number + 8) e.number ≡ y → (z : Bool) → holds h e.number ≡ z →
           Good source (With Seen e) (cond x (showing s h) (cond y (lost (greatest e.number 8 h)) (cond z (showing s h) (settled s (placed h e)))))
@@ -107,9 +107,9 @@ module _ (source : Source) (Seen : EventPacket → Type 0) where
       go false p false q true o = unchanged s h e (λ l. eqb-true _ _ o) g
       go false p false q false o = put_in s h e (leb-false _ _ p) (ltb-false _ _ q) w r wr g
 
-  picture-good : (s : Picture) (h : Held) (p : Picture) → Within (s.number + 2) (s.number + 8) h → source.Written (Packet.Picture p) →
+  picture_good : (s : Picture) (h : Held) (p : Picture) → Within (s.number + 2) (s.number + 8) h → source.Written (Packet.Picture p) →
       GoodAt source Seen (Shown.Picture s) h → Good source Seen (taken_picture s h p)
-  picture-good s h p w wr g = go (leb p.number s.number) refl
+  picture_good s h p w wr g = go (leb p.number s.number) refl
     where
       waits : s.number < p.number → Waits source Seen p.number (above p.number 8 h)
       waits l x k lx =
@@ -124,9 +124,9 @@ module _ (source : Source) (Seen : EventPacket → Type 0) where
           settled_good source Seen p (above p.number 8 h) (picture_within s.number p.number h l w) (source.picture p wr)
           (all_above (Known source Seen) p.number h w.0 g.1) (waits l) (source.closed (Packet.Picture p) wr)
 
-  lost-picture-good : (floor : ℕ) (h : Held) (p : Picture) → source.Written (Packet.Picture p) → GoodAt source Seen (Shown.Lost floor) h →
+  lost_picture_good : (floor : ℕ) (h : Held) (p : Picture) → source.Written (Packet.Picture p) → GoodAt source Seen (Shown.Lost floor) h →
       Good source Seen (cond (ltb p.number floor) (record { shown = Shown.Lost floor; held = h }) (showing p nothing))
-  lost-picture-good floor h p wr g = go (ltb p.number floor) refl
+  lost_picture_good floor h p wr g = go (ltb p.number floor) refl
     where
       go : (t : Bool) → ltb p.number floor ≡ t → Good source Seen (cond t (record { shown = Shown.Lost floor; held = h }) (showing p nothing))
       go true t = g
@@ -142,28 +142,28 @@ module _ (source : Source) (Seen : EventPacket → Type 0) where
     pub formed : WellFormed f
     pub good : Good source Seen f
 
-  event-at : (x : Shown) (h : Held) (e : EventPacket) → WellFormedAt x h → Readable (Packet.Event e) → source.Written (Packet.Event e) → GoodAt source Seen x h →
+  event_at : (x : Shown) (h : Held) (e : EventPacket) → WellFormedAt x h → Readable (Packet.Event e) → source.Written (Packet.Event e) → GoodAt source Seen x h →
       Good source (With Seen e) (taken_at x h (Packet.Event e))
-  event-at (Shown.Lost floor) h e w r wr g = raised floor e g
-  event-at (Shown.Picture s) h e w r wr g = event-good s h e w.1 r wr g
+  event_at (Shown.Lost floor) h e w r wr g = raised floor e g
+  event_at (Shown.Picture s) h e w r wr g = event_good s h e w.1 r wr g
 
-  picture-at : (x : Shown) (h : Held) (p : Picture) → WellFormedAt x h → source.Written (Packet.Picture p) → GoodAt source Seen x h →
+  picture_at : (x : Shown) (h : Held) (p : Picture) → WellFormedAt x h → source.Written (Packet.Picture p) → GoodAt source Seen x h →
       Good source Seen (taken_at x h (Packet.Picture p))
-  picture-at (Shown.Lost floor) h p w wr g = lost-picture-good floor h p wr g
-  picture-at (Shown.Picture s) h p w wr g = picture-good s h p w.1 wr g
+  picture_at (Shown.Lost floor) h p w wr g = lost_picture_good floor h p wr g
+  picture_at (Shown.Picture s) h p w wr g = picture_good s h p w.1 wr g
 
 pub event_kept : (source : Source) (Seen : EventPacket → Type 0) (f : Follower) (e : EventPacket) → Readable (Packet.Event e) → source.Written (Packet.Event e) →
     Kept source Seen f → Kept source (With Seen e) (taken f (Packet.Event e))
 event_kept source Seen f e r wr k = record {
   formed = take_kept f (Packet.Event e) k.formed r;
-  good = event-at source Seen f.shown f.held e k.formed r wr k.good;
+  good = event_at source Seen f.shown f.held e k.formed r wr k.good;
 }
 
 pub picture_kept : (source : Source) (Seen : EventPacket → Type 0) (f : Follower) (p : Picture) → Readable (Packet.Picture p) → source.Written (Packet.Picture p) →
     Kept source Seen f → Kept source Seen (taken f (Packet.Picture p))
 picture_kept source Seen f p r wr k = record {
   formed = take_kept f (Packet.Picture p) k.formed r;
-  good = picture-at source Seen f.shown f.held p k.formed wr k.good;
+  good = picture_at source Seen f.shown f.held p k.formed wr k.good;
 }
 
 -- without errors, up to a greatest number: shown stays shown
@@ -172,16 +172,16 @@ module _ (most n : ℕ) (source : Source) (Seen : EventPacket → Type 0)
     (near : most ≤ n + 8)
     (bounded : (e : EventPacket) → Seen e → e.number ≤ most)
     (fine : (e : EventPacket) → source.Written (Packet.Event e) → n < e.number → e.number ≤ most → e.answer ≡ 0) where
-  fine-held : (m : ℕ) (h : Held) → n ≤ m → AllHeld (Known source Seen) h → NoErrors most m h
-  fine-held m h l a j lj has =
+  fine_held : (m : ℕ) (h : Held) → n ≤ m → AllHeld (Known source Seen) h → NoErrors most m h
+  fine_held m h l a j lj has =
       let q = all_has (Known source Seen) h j (omega (arith, lj)) a has in
       let b : (held_for h j).number ≤ most = bounded (held_for h j) q.1 in
       (fine (held_for h j) q.0 (omega (arith, has, l, lj)) b, omega (arith, has, b))
 
   -- an event packet, already among those met
-  event-shown : (s : Picture) (h : Held) (e : EventPacket) → n ≤ s.number → s.number ≤ most → Within (s.number + 2) (s.number + 8) h →
+  event_shown : (s : Picture) (h : Held) (e : EventPacket) → n ≤ s.number → s.number ≤ most → Within (s.number + 2) (s.number + 8) h →
       source.Written (Packet.Event e) → Seen e → AllHeld (Known source Seen) h → ShownFrom most n (taken_event s h e).shown
-  event-shown s h e l m w wr k a = go (leb e.number s.number) refl (ltb (s.number + 8) e.number) refl (holds h e.number) refl
+  event_shown s h e l m w wr k a = go (leb e.number s.number) refl (ltb (s.number + 8) e.number) refl (holds h e.number) refl
     where
       go : (x : Bool) → leb e.number s.number ≡ x → (y : Bool) → ltb (s.number + 8) e.number ≡ y → (z : Bool) → holds h e.number ≡ z →
           ShownFrom most n (cond x (showing s h) (cond y (lost (greatest e.number 8 h)) (cond z (showing s h) (settled s (placed h e))))).shown
@@ -190,9 +190,9 @@ module _ (most n : ℕ) (source : Source) (Seen : EventPacket → Type 0)
       go false p false q true o = (l, m)
       go false p false q false o =
           from_less most n s.number (settled s (placed h e)).shown l
-          (turn-shown most 8 (greatest s.number 8 (placed h e)) s.number s.display (placed h e)
+          (turn_shown most 8 (greatest s.number 8 (placed h e)) s.number s.display (placed h e)
           (length-set h.packets (e.number % 8) e ∙ w.0) m
-          (fine-held s.number (placed h e) l (all_put (Known source Seen) h (e.number % 8) e (mod8 e.number) w.0 (inr (wr, k)) a)))
+          (fine_held s.number (placed h e) l (all_put (Known source Seen) h (e.number % 8) e (mod8 e.number) w.0 (inr (wr, k)) a)))
 
   picture_shown : (s : Picture) (h : Held) (p : Picture) → n ≤ s.number → s.number ≤ most → Within (s.number + 2) (s.number + 8) h →
       p.number ≤ most → AllHeld (Known source Seen) h → ShownFrom most n (taken_picture s h p).shown
@@ -203,9 +203,9 @@ module _ (most n : ℕ) (source : Source) (Seen : EventPacket → Type 0)
       go false e =
           let q : s.number < p.number = leb-false _ _ e in
           from_less most n p.number (settled p (above p.number 8 h)).shown (omega (arith, l, q))
-          (turn-shown most 8 (greatest p.number 8 (above p.number 8 h)) p.number p.display (above p.number 8 h)
+          (turn_shown most 8 (greatest p.number 8 (above p.number 8 h)) p.number p.display (above p.number 8 h)
           (seen p.number 8 h w.0 (omega arith)).0 b
-          (fine-held p.number (above p.number 8 h) (omega (arith, l, q)) (all_above (Known source Seen) p.number h w.0 a)))
+          (fine_held p.number (above p.number 8 h) (omega (arith, l, q)) (all_above (Known source Seen) p.number h w.0 a)))
 
   -- the packets met so far are among them
   module _ (Met : EventPacket → Type 0) (among : (e : EventPacket) → Met e → Seen e) where
@@ -215,7 +215,7 @@ module _ (most n : ℕ) (source : Source) (Seen : EventPacket → Type 0)
     event-stays-at : (x : Shown) (h : Held) (e : EventPacket) → WellFormedAt x h → ShownFrom most n x → source.Written (Packet.Event e) → Seen e → GoodAt source Met x h →
         ShownFrom most n (taken_at x h (Packet.Event e)).shown
     event-stays-at (Shown.Lost floor) h e w t wr k g = absurd t
-    event-stays-at (Shown.Picture s) h e w t wr k g = event-shown s h e t.0 t.1 w.1 wr k (all_among h g.1)
+    event-stays-at (Shown.Picture s) h e w t wr k g = event_shown s h e t.0 t.1 w.1 wr k (all_among h g.1)
 
     picture-stays-at : (x : Shown) (h : Held) (p : Picture) → WellFormedAt x h → ShownFrom most n x → p.number ≤ most → GoodAt source Met x h →
         ShownFrom most n (taken_at x h (Packet.Picture p)).shown

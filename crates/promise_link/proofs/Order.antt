@@ -19,7 +19,7 @@ use Rattle.desk_follower.proofs.Kept.{mod8, seen, picture_within}
 use Rattle.desk_follower.proofs.Laws.{greatest_base, greatest_held, greatest_le, above_stays}
 use Rattle.promise_link.specs.Alike.{one, held_from}
 use Rattle.promise_link.proofs.Places.{Has}
-use Rattle.promise_link.proofs.Ring.{one_held, one_none, one_same, one_beyond, one_below, short, skip, one-there, one-here, after-here}
+use Rattle.promise_link.proofs.Ring.{one_held, one_none, one_same, one_beyond, one_below, short, skip, one_there, one_here, after_here}
 
 -- a packet held with others
 
@@ -50,10 +50,10 @@ module _ (e : EventPacket) (h : Held) where
       go false t = refl
 
   -- held already: it is not held again
-  pub held-again : Has h e.number → (k m : ℕ) → m ≤ e.number → e.number < m + k → paper.held_with e (held_from h m k) ≡ held_from h m k
+  pub held_again : Has h e.number → (k m : ℕ) → m ≤ e.number → e.number < m + k → paper.held_with e (held_from h m k) ≡ held_from h m k
   unfolding held_from
-  held-again has zero m l u = absurd (omega arith)
-  held-again has (suc k) m l u = go (eqb m e.number) refl (λ z. held-again has k (m + 1) (omega arith) (omega arith))
+  held_again has zero m l u = absurd (omega arith)
+  held_again has (suc k) m l u = go (eqb m e.number) refl (λ z. held_again has k (m + 1) (omega arith) (omega arith))
     where
       go : (t : Bool) → eqb m e.number ≡ t → (m < e.number → paper.held_with e (held_from h (m + 1) k) ≡ held_from h (m + 1) k) →
           paper.held_with e (one h m ++ held_from h (m + 1) k) ≡ one h m ++ held_from h (m + 1) k
@@ -80,9 +80,9 @@ module _ (e : EventPacket) (h : Held) where
             one (placed h e) m ++ held_from (placed h e) (m + 1) k ≡ paper.held_with e (one h m ++ held_from h (m + 1) k)
         go true t r =
             let q : m ≡ e.number = eqb-true _ _ t in
-            let a : one (placed h e) m ≡ e ∷ [] = subst (λ (z : ℕ). one (placed h e) z ≡ e ∷ []) (sym q) (one-here n h e le he len) in
+            let a : one (placed h e) m ≡ e ∷ [] = subst (λ (z : ℕ). one (placed h e) z ≡ e ∷ []) (sym q) (one_here n h e le he len) in
             let b : one h m ≡ [] = subst (λ (z : ℕ). one h z ≡ []) (sym q) (one_none h e.number new) in
-            let c : held_from (placed h e) (m + 1) k ≡ held_from h (m + 1) k = after-here n h e le he (m + 1) k (omega arith) (omega arith) in
+            let c : held_from (placed h e) (m + 1) k ≡ held_from h (m + 1) k = after_here n h e le he (m + 1) k (omega arith) (omega arith) in
             ap (λ (x : List EventPacket). x ++ held_from (placed h e) (m + 1) k) a
             ∙ (ap (λ (x : List EventPacket). e ∷ x) c
             ∙ (sym (front (m + 1) k (omega arith))
@@ -90,7 +90,7 @@ module _ (e : EventPacket) (h : Held) where
         go false t r =
             let d : m ≡ e.number → ⊥ = eqb-false _ _ t in
             let z : m < e.number = omega (arith, d) in
-            ap (λ (x : List EventPacket). x ++ held_from (placed h e) (m + 1) k) (one-there n h e le he m lm (omega arith) d)
+            ap (λ (x : List EventPacket). x ++ held_from (placed h e) (m + 1) k) (one_there n h e le he m lm (omega arith) d)
             ∙ (ap (λ (x : List EventPacket). one h m ++ x) (r z) ∙ past m (held_from h (m + 1) k) z)
 
 -- the greatest number
@@ -146,9 +146,9 @@ module _ (m : ℕ) where
     greatest-is lo hi a k w la lk = omega (arith, high lo hi a k w la lk, low k a)
 
   -- what is dropped below m makes no difference
-  pub greatest-above : (l : List EventPacket) → paper.greatest m (paper.above m l) ≡ paper.greatest m l
-  greatest-above [] = refl
-  greatest-above (e ∷ l) = go (ltb m e.number) refl (greatest-above l)
+  pub greatest_above : (l : List EventPacket) → paper.greatest m (paper.above m l) ≡ paper.greatest m l
+  greatest_above [] = refl
+  greatest_above (e ∷ l) = go (ltb m e.number) refl (greatest_above l)
     where
       go : (t : Bool) → ltb m e.number ≡ t → paper.greatest m (paper.above m l) ≡ paper.greatest m l →
           paper.greatest m (cond t (e ∷ paper.above m l) (paper.above m l)) ≡ max e.number (paper.greatest m l)
@@ -167,15 +167,15 @@ above_on m (e ∷ l) r = go (ltb m e.number) (above_on m l r)
     go false q = q
 
 module _ (m : ℕ) (h : Held) (len : length h.packets ≡ 8) where
-  stay-one : (x : ℕ) → m < (held_for h x).number → paper.above m (one h x) ≡ one h x
-  stay-one x l = go (holds h x)
+  stay_one : (x : ℕ) → m < (held_for h x).number → paper.above m (one h x) ≡ one h x
+  stay_one x l = go (holds h x)
     where
       go : (t : Bool) → paper.above m (cond t (held_for h x ∷ []) []) ≡ cond t (held_for h x ∷ []) []
       go true = rw (lt-ltb m (held_for h x).number l)
       go false = refl
 
-  drop-one : (x : ℕ) → (held_for h x).number ≤ m → paper.above m (one h x) ≡ []
-  drop-one x l = go (holds h x)
+  drop_one : (x : ℕ) → (held_for h x).number ≤ m → paper.above m (one h x) ≡ []
+  drop_one x l = go (holds h x)
     where
       go : (t : Bool) → paper.above m (cond t (held_for h x ∷ []) []) ≡ []
       go true = rw (le-ltb m (held_for h x).number l)
@@ -190,22 +190,22 @@ module _ (m : ℕ) (h : Held) (len : length h.packets ≡ 8) where
       absurd (omega (arith, l, y, q.1 (mod8 x))))
       ((seen m 8 h len (omega arith)).1 (x % 8) (mod8 x))
 
-  one-above : (x : ℕ) → 0 < x → one (above m 8 h) x ≡ paper.above m (one h x)
-  one-above x pos = go (ltb m (held_for h x).number) refl
+  one_above : (x : ℕ) → 0 < x → one (above m 8 h) x ≡ paper.above m (one h x)
+  one_above x pos = go (ltb m (held_for h x).number) refl
     where
       go : (t : Bool) → ltb m (held_for h x).number ≡ t → one (above m 8 h) x ≡ paper.above m (one h x)
       go true t =
           let l : m < (held_for h x).number = ltb-true _ _ t in
-          one_same (above m 8 h) h x (above_stays m 8 h (x % 8) l) ∙ sym (stay-one x l)
+          one_same (above m 8 h) h x (above_stays m 8 h (x % 8) l) ∙ sym (stay_one x l)
       go false t =
           let l : (held_for h x).number ≤ m = ltb-false _ _ t in
-          one_none (above m 8 h) x (gone x pos l) ∙ sym (drop-one x l)
+          one_none (above m 8 h) x (gone x pos l) ∙ sym (drop_one x l)
 
   all_above : (k a : ℕ) → 0 < a → held_from (above m 8 h) a k ≡ paper.above m (held_from h a k)
   unfolding held_from
   all_above zero a pos = refl
   all_above (suc k) a pos =
-      ap (λ (x : List EventPacket). x ++ held_from (above m 8 h) (a + 1) k) (one-above a pos)
+      ap (λ (x : List EventPacket). x ++ held_from (above m 8 h) (a + 1) k) (one_above a pos)
       ∙ (ap (λ (x : List EventPacket). paper.above m (one h a) ++ x) (all_above k (a + 1) (omega arith))
       ∙ sym (above_on m (one h a) (held_from h (a + 1) k)))
 

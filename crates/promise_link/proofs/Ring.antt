@@ -86,15 +86,15 @@ dropped_from n hi h lh w =
 
 -- a packet is put in
 module _ (n : ℕ) (h : Held) (e : EventPacket) (le : n < e.number) (he : e.number ≤ n + 8) where
-  pub one-there : (m : ℕ) → n < m → m ≤ n + 8 → (m ≡ e.number → ⊥) → one (placed h e) m ≡ one h m
-  one-there m lm hm d = one_same (placed h e) h m (placed_there h e n m lm hm le he d)
+  pub one_there : (m : ℕ) → n < m → m ≤ n + 8 → (m ≡ e.number → ⊥) → one (placed h e) m ≡ one h m
+  one_there m lm hm d = one_same (placed h e) h m (placed_there h e n m lm hm le he d)
 
-  pub one-here : length h.packets ≡ 8 → one (placed h e) e.number ≡ e ∷ []
-  one-here len =
+  pub one_here : length h.packets ≡ 8 → one (placed h e) e.number ≡ e ∷ []
+  one_here len =
       let x : held_for (placed h e) e.number ≡ e = placed_here h e len in
       one_held (placed h e) e.number (ap (λ (p : EventPacket). p.number) x) ∙ ap (λ (p : EventPacket). p ∷ []) x
 
-  pub after-here : (m k : ℕ) → e.number < m → m + k ≤ n + 9 → held_from (placed h e) m k ≡ held_from h m k
-  after-here m k l u =
+  pub after_here : (m k : ℕ) → e.number < m → m + k ≤ n + 9 → held_from (placed h e) m k ≡ held_from h m k
+  after_here m k l u =
       same_from (placed h e) h m k
-      (λ x lx ux. one-there x (omega (arith, le, l, lx)) (omega (arith, u, ux)) (λ q. absurd (omega (arith, q, l, lx))))
+      (λ x lx ux. one_there x (omega (arith, le, l, lx)) (omega (arith, u, ux)) (λ q. absurd (omega (arith, q, l, lx))))

@@ -48,17 +48,17 @@ module _ (source : Source) (Seen : EventPacket → Type 0) where
   abbrev pub Good : Follower → Type 0
   Good f = GoodAt f.shown f.held
 
-  waits-on : (n hi : ℕ) (h : Held) → hi ≤ n + 8 → Within (n + 1) hi h → Waits n h → Waits (n + 1) (dropped h (n + 1))
-  waits-on n hi h lh w u e k l =
+  waits_on : (n hi : ℕ) (h : Held) → hi ≤ n + 8 → Within (n + 1) hi h → Waits n h → Waits (n + 1) (dropped h (n + 1))
+  waits_on n hi h lh w u e k l =
       let has : Has h e.number = u e k (omega (arith, l)) in
       let b : (n + 1 ≤ e.number) × (e.number ≤ hi) = has_bounds (n + 1) hi h e.number (omega (arith, l)) w has in
       let x : (held_for (dropped h (n + 1)) e.number).number ≡ (held_for h e.number).number =
       ap (λ (z : EventPacket). z.number) (dropped_there h n e.number l (omega (arith, lh, b.1))) in
       x ∙ has
 
-  right-on : (n : ℕ) (d : Display) (h : Held) → d ≡ source.held n → AllHeld Known h → Has h (n + 1) → (held_for h (n + 1)).answer ≡ 0 →
+  right_on : (n : ℕ) (d : Display) (h : Held) → d ≡ source.held n → AllHeld Known h → Has h (n + 1) → (held_for h (n + 1)).answer ≡ 0 →
       all_applied (held_for h (n + 1)).notices d ≡ source.held (n + 1)
-  right-on n d h r a has z =
+  right_on n d h r a has z =
       let e : n + 1 ≡ suc n = omega arith in
       ap (λ (x : Display). all_applied (held_for h (n + 1)).notices x) r
       ∙ source.event n (held_for h (n + 1)) (all_has Known h (n + 1) (omega arith) a has).0 (has ∙ e) z
@@ -75,8 +75,8 @@ module _ (source : Source) (Seen : EventPacket → Type 0) where
   turn_good (suc k) floor n d h hi lh w r a u cl up at =
       go (holds h (n + 1)) refl (eqb (held_for h (n + 1)).answer 0) refl
       (λ has z. turn_good k floor (n + 1) (all_applied (held_for h (n + 1)).notices d) (dropped h (n + 1)) hi (omega (arith, lh))
-      (again w) (right-on n d h r a has z)
-      (all_put Known h ((n + 1) % 8) none (mod8 (n + 1)) w.0 (inl refl) a) (waits-on n hi h lh w u) (closed_on n h a has) up (λ q. at has))
+      (again w) (right_on n d h r a has z)
+      (all_put Known h ((n + 1) % 8) none (mod8 (n + 1)) w.0 (inl refl) a) (waits_on n hi h lh w u) (closed_on n h a has) up (λ q. at has))
     where
       again : Within (n + 1) hi h → Within (n + 1 + 1) hi (dropped h (n + 1))
       again v =
@@ -92,8 +92,8 @@ module _ (source : Source) (Seen : EventPacket → Type 0) where
       go false ex false ey ih = (r, a, u, cl)
 
   -- everything met is at most the greatest of what is shown and held
-  pub upper-held : (m n : ℕ) (h : Held) → n ≤ m → Waits n h → Upper (greatest m 8 h)
-  upper-held m n h l u e k = go (ltb n e.number) refl
+  pub upper_held : (m n : ℕ) (h : Held) → n ≤ m → Waits n h → Upper (greatest m 8 h)
+  upper_held m n h l u e k = go (ltb n e.number) refl
     where
       go : (t : Bool) → ltb n e.number ≡ t → e.number ≤ greatest m 8 h
       go true t =
@@ -102,8 +102,8 @@ module _ (source : Source) (Seen : EventPacket → Type 0) where
       go false t = omega (arith, ltb-false n e.number t, l, greatest_base m 8 h)
 
   -- the greatest was met, if it is above the number given
-  pub reached-held : (m : ℕ) (h : Held) → AllHeld Known h → m < greatest m 8 h → Reached (greatest m 8 h)
-  reached-held m h a l = ⊎_elim (λ e. absurd (omega (arith, l, e))) (λ q. one q.0 q.1 q.2) (greatest_one m 8 h)
+  pub reached_held : (m : ℕ) (h : Held) → AllHeld Known h → m < greatest m 8 h → Reached (greatest m 8 h)
+  reached_held m h a l = ⊎_elim (λ e. absurd (omega (arith, l, e))) (λ q. one q.0 q.1 q.2) (greatest_one m 8 h)
     where
       one : (i : ℕ) → i < 8 → greatest m 8 h ≡ (packet_at h i).number → Reached (greatest m 8 h)
       one i li e =
@@ -114,8 +114,8 @@ module _ (source : Source) (Seen : EventPacket → Type 0) where
       source.Closed s.number → Good (settled s h)
   settled_good s h w r a u cl =
       turn_good 8 (greatest s.number 8 h) s.number s.display h (s.number + 8) (omega arith) w r a u cl
-      (upper-held s.number s.number h (omega arith) u)
-      (λ has. reached-held s.number h a (omega (arith, has, greatest_held s.number 8 h ((s.number + 1) % 8) (mod8 (s.number + 1)))))
+      (upper_held s.number s.number h (omega arith) u)
+      (λ has. reached_held s.number h a (omega (arith, has, greatest_held s.number 8 h ((s.number + 1) % 8) (mod8 (s.number + 1)))))
 
 -- without errors
 
@@ -133,21 +133,21 @@ module _ (most : ℕ) where
   abbrev pub NoErrors : ℕ → Held → Type 0
   NoErrors n h = (m : ℕ) → n < m → Has h m → ((held_for h m).answer ≡ 0) × (m ≤ most)
 
-  no-errors-on : (n : ℕ) (h : Held) → length h.packets ≡ 8 → NoErrors n h → NoErrors (n + 1) (dropped h (n + 1))
-  no-errors-on n h len p m l has =
+  no_errors_on : (n : ℕ) (h : Held) → length h.packets ≡ 8 → NoErrors n h → NoErrors (n + 1) (dropped h (n + 1))
+  no_errors_on n h len p m l has =
       let x : held_for (dropped h (n + 1)) m ≡ held_for h m = dropped_less h n m (omega (arith, l)) len has in
       let y : Has h m = ap (λ (z : EventPacket). z.number) (sym x) ∙ has in
       let q = p m (omega (arith, l)) y in
       (ap (λ (z : EventPacket). z.answer) x ∙ q.0, q.1)
 
-  pub turn-shown : (k floor n : ℕ) (d : Display) (h : Held) → length h.packets ≡ 8 → n ≤ most → NoErrors n h → ShownFrom n (in_turn k floor n d h).shown
+  pub turn_shown : (k floor n : ℕ) (d : Display) (h : Held) → length h.packets ≡ 8 → n ≤ most → NoErrors n h → ShownFrom n (in_turn k floor n d h).shown
   unfolding in_turn
-  turn-shown zero floor n d h len l p = (omega arith, l)
-  turn-shown (suc k) floor n d h len l p =
+  turn_shown zero floor n d h len l p = (omega arith, l)
+  turn_shown (suc k) floor n d h len l p =
       go (holds h (n + 1)) refl (eqb (held_for h (n + 1)).answer 0) refl
       (λ has. from_less n (n + 1) (in_turn k floor (n + 1) (all_applied (held_for h (n + 1)).notices d) (dropped h (n + 1))).shown (omega arith)
-      (turn-shown k floor (n + 1) (all_applied (held_for h (n + 1)).notices d) (dropped h (n + 1))
-      (length-set h.packets ((n + 1) % 8) none ∙ len) (p (n + 1) (omega arith) has).1 (no-errors-on n h len p)))
+      (turn_shown k floor (n + 1) (all_applied (held_for h (n + 1)).notices d) (dropped h (n + 1))
+      (length-set h.packets ((n + 1) % 8) none ∙ len) (p (n + 1) (omega arith) has).1 (no_errors_on n h len p)))
     where
       go : (x : Bool) → holds h (n + 1) ≡ x → (y : Bool) → eqb (held_for h (n + 1)).answer 0 ≡ y →
           (Has h (n + 1) → ShownFrom n (in_turn k floor (n + 1) (all_applied (held_for h (n + 1)).notices d) (dropped h (n + 1))).shown) →

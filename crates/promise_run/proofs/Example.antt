@@ -45,7 +45,7 @@ use Rattle.promise_link.proofs.Lists.{one_packet}
 use Rattle.promise_run.specs.Run.{HasSent, services, CallsFit}
 use Rattle.promise_run.specs.Sized.{RecordsFit}
 use Rattle.promise_run.specs.Demands.{Demands}
-use Rattle.promise_run.proofs.Linked.{source, run-demand-3, after_start}
+use Rattle.promise_run.proofs.Linked.{source, run_demand_3, after_start}
 
 abbrev offer : ℕ → ℕ → ConsumerPowerCapability
 offer v a =
@@ -242,7 +242,7 @@ shows_start = refl
 
 pub by_theorem : FollowerShows (takes_bytes fresh mixed) 2 (writer.held 2)
 by_theorem =
-    (run-demand-3 rust_default 2 0 (omega arith) (omega arith) (record { threshold = omega arith; unlimited = refl; limited = refl; minimum = tt }) calls calls_fit).b (picture [] ∷ []) later 0 2 (picture_of start).display handed
+    (run_demand_3 rust_default 2 0 (omega arith) (omega arith) (record { threshold = omega arith; unlimited = refl; limited = refl; minimum = tt }) calls calls_fit).b (picture [] ∷ []) later 0 2 (picture_of start).display handed
     shows_start (omega arith) comes nothing_above
 
 -- the packets that the definition says: event 2 has three orders and two notices, event 3 its error, one order and no notice

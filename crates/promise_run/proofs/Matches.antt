@@ -44,7 +44,7 @@ use Rattle.machine_follows.proofs.Serves.{service, service_at, closed_answer, op
 use Rattle.promise_run.specs.Run.{after_call, CallFits}
 use Rattle.promise_run.specs.Demands.{stand_of}
 use Rattle.promise_run.specs.Sized.{RecordsFit}
-use Rattle.promise_run.proofs.Sized.{StateFits, HeldFits, Sized, event-sized}
+use Rattle.promise_run.proofs.Sized.{StateFits, HeldFits, Sized, event_sized}
 
 -- what the event closed last has left
 pub record Last : Type 0 where
@@ -272,9 +272,9 @@ module _ (g : Registration) (number k : ℕ) (kind device detail : ℕ) (r : Rec
   conditions waits = first_refused (open_conditions g.ports g.chargers waits number kind device detail)
 
   -- between events: the machine and the definition open the same event
-  open-closed : (a : Result) (m : Memory) (held : Last) (before : InternalState) → Limits g → RecordsFit r → number ≤ 4294967295 → Closed k a m held before →
+  open_closed : (a : Result) (m : Memory) (held : Last) (before : InternalState) → Limits g → RecordsFit r → number ≤ 4294967295 → Closed k a m held before →
       Went (service g number k (Phase.Closed a) m) held before (open_event kind device detail r) (open_of (service g number k (Phase.Closed a) m) kind device detail r).service
-  open-closed a m held before le rf nb st = go (eqb (conditions false) 0) refl (eqb kind 5) refl
+  open_closed a m held before le rf nb st = go (eqb (conditions false) 0) refl (eqb kind 5) refl
     where
       s : Service
       s = service g number k (Phase.Closed a) m
@@ -318,14 +318,14 @@ module _ (g : Registration) (number k : ℕ) (kind device detail : ℕ) (r : Rec
           (went g number 0 k (3 + 4 * g.chargers) (t held.state) (Phase.Closed a) m held before (open_event kind device detail r) i le lt
           (opened g held.state device (event_of kind detail) r) (opened_fits g held.state device (event_of kind detail) r)
           (event_bound g device (event_of kind detail) held.state r) (omega (arith, le.chargers)) (event_carries g device (event_of kind detail) held.state r)
-          (event-sized g le.config le.ports device (event_of kind detail) held.state r port (subst StateFits same-state st.sized.state) rf)
+          (event_sized g le.config le.ports device (event_of kind detail) held.state r port (subst StateFits same-state st.sized.state) rf)
           (ap (λ b. cond b (cond (eqb kind 5) (policy_of s held) (proceeds (policy_of s held) 0 i)) (policy_of s held)) ex
           ∙ ap (λ b. cond b (policy_of s held) (proceeds (policy_of s held) 0 i)) ey))
 
   -- at an order: 23, 24 or 25
-  open-open : (p : Phase) (m : Memory) (held : Last) (before : InternalState) → is_open p ≡ true → Runs (service g number k p m) held before →
+  open_open : (p : Phase) (m : Memory) (held : Last) (before : InternalState) → is_open p ≡ true → Runs (service g number k p m) held before →
       Went (service g number k p m) held before (open_event kind device detail r) (open_of (service g number k p m) kind device detail r).service
-  open-open p m held before io runs = go (eqb (conditions true) 0) refl
+  open_open p m held before io runs = go (eqb (conditions true) 0) refl
     where
       s : Service
       s = service g number k p m
@@ -369,15 +369,15 @@ goes_at g number k (Phase.Providing p c) m held before (give_answer n r) cf x =
     answer_goes g number k (Phase.Providing p c) m held before (Order.ConnectProvider p c) n r x.limits cf x.number refl refl
     (providing_answered g p c m x.state.fits (result_of n) r) x.state x.state
 goes_at g number k (Phase.Closed a) m held before (open_event kind device detail r) cf x =
-    open-closed g number k kind device detail r a m held before x.limits cf x.number x.state
+    open_closed g number k kind device detail r a m held before x.limits cf x.number x.state
 goes_at g number k (Phase.Leaving i p f) m held before (open_event kind device detail r) cf x =
-    open-open g number k kind device detail r (Phase.Leaving i p f) m held before refl x
+    open_open g number k kind device detail r (Phase.Leaving i p f) m held before refl x
 goes_at g number k (Phase.Switching l old f new) m held before (open_event kind device detail r) cf x =
-    open-open g number k kind device detail r (Phase.Switching l old f new) m held before refl x
+    open_open g number k kind device detail r (Phase.Switching l old f new) m held before refl x
 goes_at g number k (Phase.Connecting s new) m held before (open_event kind device detail r) cf x =
-    open-open g number k kind device detail r (Phase.Connecting s new) m held before refl x
+    open_open g number k kind device detail r (Phase.Connecting s new) m held before refl x
 goes_at g number k (Phase.Providing p c) m held before (open_event kind device detail r) cf x =
-    open-open g number k kind device detail r (Phase.Providing p c) m held before refl x
+    open_open g number k kind device detail r (Phase.Providing p c) m held before refl x
 
 pub goes : (s : Service) (held : Last) (before : InternalState) (c : Call) → CallFits c → Runs s held before → Went s held before c (after_call s c)
 goes s held before c cf x = goes_at s.registration s.number s.orders s.phase s.memory held before c cf x

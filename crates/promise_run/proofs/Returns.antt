@@ -84,9 +84,9 @@ module _ (g : Registration) (number k : ℕ) (kind device detail : ℕ) (r : Rec
   abbrev says : Bool → Step → Step
   says waits z = cond (eqb (conditions waits) 0) (cond (eqb kind 5) (Step.Closed Result.Ok 0) z) (Step.Refused (conditions waits))
 
-  open-returns : (p : Phase) (m : Memory) (held : Last) → (is_open p ≡ false → m.state ≡ held.state) →
+  open_returns : (p : Phase) (m : Memory) (held : Last) → (is_open p ≡ false → m.state ≡ held.state) →
       (open_of (service g number k p m) kind device detail r).step ≡ open_to (policy_of (service g number k p m) held) kind device detail r
-  open-returns p m held same =
+  open_returns p m held same =
       step_of (eqb (conditions (is_open p)) 0) (eqb kind 5) (conditions (is_open p)) (service g number k p m) (opened_of (service g number k p m) device (event_of kind detail) r)
       ∙ (go (is_open p) refl ∙ ap (λ w. says w (brings 0 (event g device (event_of kind detail) held.state r))) (sym (open_is k g p m)))
     where
@@ -170,9 +170,9 @@ notices_pushed n =
     ∙ (pushed_on (pushed_all empty p) d (c ++ u) ∙ pushed_on (pushed_all (pushed_all empty p) d) c u)))
 
 module _ (g : Registration) (number k : ℕ) where
-  packet-at : (p : Phase) (m : Memory) (held : Last) (before : InternalState) → StateAt g number k p m held before →
+  packet_at : (p : Phase) (m : Memory) (held : Last) (before : InternalState) → StateAt g number k p m held before →
       send_packet (service g number k p m) ≡ packet_to (policy_of (service g number k p m) held)
-  packet-at (Phase.Closed a) m held before c =
+  packet_at (Phase.Closed a) m held before c =
       ap (λ x. sentOf (record { number = number; answer = answer_byte a; orders = k; notices = x })) (notices_pushed m.notices)
       ∙ ap (λ (x : Last). sentOf (record { number = number; answer = answer_byte x.answer; orders = x.orders; notices = pushed_all empty x.notices })) c.same
     where
@@ -180,27 +180,27 @@ module _ (g : Registration) (number k : ℕ) where
       sentOf e =
           let n : ℕ = first_refused (packet_conditions false number) in
           cond (eqb n 0) (SentPacket.Packet e) (SentPacket.Refused n)
-  packet-at (Phase.Leaving i p f) m held before c = refl
-  packet-at (Phase.Switching l old f new) m held before c = refl
-  packet-at (Phase.Connecting s new) m held before c = refl
-  packet-at (Phase.Providing p d) m held before c = refl
+  packet_at (Phase.Leaving i p f) m held before c = refl
+  packet_at (Phase.Switching l old f new) m held before c = refl
+  packet_at (Phase.Connecting s new) m held before c = refl
+  packet_at (Phase.Providing p d) m held before c = refl
 
-  picture-at : (p : Phase) (m : Memory) (held : Last) (before : InternalState) → StateAt g number k p m held before →
+  picture_at : (p : Phase) (m : Memory) (held : Last) (before : InternalState) → StateAt g number k p m held before →
       send_picture (service g number k p m) ≡ picture_to (policy_of (service g number k p m) held)
-  picture-at (Phase.Closed a) m held before c =
+  picture_at (Phase.Closed a) m held before c =
       ap (λ (x : Last). SentPicture.Picture (record { number = number; display = display_of x.state })) c.same
-  picture-at (Phase.Leaving i p f) m held before c = refl
-  picture-at (Phase.Switching l old f new) m held before c = refl
-  picture-at (Phase.Connecting s new) m held before c = refl
-  picture-at (Phase.Providing p d) m held before c = refl
+  picture_at (Phase.Leaving i p f) m held before c = refl
+  picture_at (Phase.Switching l old f new) m held before c = refl
+  picture_at (Phase.Connecting s new) m held before c = refl
+  picture_at (Phase.Providing p d) m held before c = refl
 
   -- the open order
-  order-at : (p : Phase) (m : Memory) → order_of p ≡ order_at (stand_of k (stands_at g p m))
-  order-at (Phase.Closed a) m = refl
-  order-at (Phase.Leaving i p f) m = refl
-  order-at (Phase.Switching l old f new) m = refl
-  order-at (Phase.Connecting s new) m = refl
-  order-at (Phase.Providing p d) m = refl
+  order_at : (p : Phase) (m : Memory) → order_of p ≡ order_at (stand_of k (stands_at g p m))
+  order_at (Phase.Closed a) m = refl
+  order_at (Phase.Leaving i p f) m = refl
+  order_at (Phase.Switching l old f new) m = refl
+  order_at (Phase.Connecting s new) m = refl
+  order_at (Phase.Providing p d) m = refl
 
 pub run_equal : (l : List Call) (s : Service) (held : Last) (before : InternalState) → CallsFit l → Runs s held before → Equal (services s l) (policies (policy_of s held) l)
 run_equal [] s held before cf x = record {
@@ -210,13 +210,13 @@ run_equal [] s held before cf x = record {
   answer = λ e. ap (λ (y : Last). y.answer) (last (is-closed e));
   orders = λ e. ap (λ (y : Last). y.orders) (last (is-closed e));
   notices = λ e. ap (λ (y : Last). y.notices) (last (is-closed e));
-  order = order-at s.registration s.number s.orders s.phase s.memory;
+  order = order_at s.registration s.number s.orders s.phase s.memory;
   stand = refl;
   opening = λ kind device detail r.
-      open-returns s.registration s.number s.orders kind device detail r s.phase s.memory held (λ o. ap (λ (y : Last). y.state) (last o));
+      open_returns s.registration s.number s.orders kind device detail r s.phase s.memory held (λ o. ap (λ (y : Last). y.state) (last o));
   answering = λ a r. answers_at s.registration s.number s.orders s.phase s.memory held before a r x;
-  packet = packet-at s.registration s.number s.orders s.phase s.memory held before x.state;
-  picture = picture-at s.registration s.number s.orders s.phase s.memory held before x.state;
+  packet = packet_at s.registration s.number s.orders s.phase s.memory held before x.state;
+  picture = picture_at s.registration s.number s.orders s.phase s.memory held before x.state;
 }
   where
     last : is_open s.phase ≡ false → last_of s.orders (answer_in s.phase) (held_of s.memory) ≡ held

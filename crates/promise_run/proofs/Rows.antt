@@ -20,7 +20,7 @@ use Rattle.power_policy_interface.specs.declared.charger.State as charger
 use Rattle.power_policy_interface.specs.declared.psu.State.{State}
 use Rattle.interface_records.specs.Group.{group_at, capability_from, all_zero, consumer_with, consumer_present, consumer_cases, provider_with, provider_present, provider_cases, option_consumer_from, option_provider_from}
 use Rattle.interface_records.specs.Psu.{psu_state_from, psu_of, psu_from, read_psu, psu_row_of, psu_row}
-use Rattle.interface_records.specs.Row.{AllBytes, consOption, records}
+use Rattle.interface_records.specs.Row.{AllBytes, cons_option, records}
 use Rattle.interface_records.specs.declared.group.Group.{Group}
 use Rattle.interface_records.specs.declared.group.ReadConsumer.{ReadConsumer}
 use Rattle.interface_records.specs.declared.group.ReadProvider.{ReadProvider}
@@ -122,7 +122,7 @@ abbrev RowFit : Option (List State) → Type 0
 RowFit none = Unit {0}
 RowFit (some l) = AllFit l
 
-cons_fits : (s : Option State) (l : Option (List State)) → Fit s → RowFit l → RowFit (consOption s l)
+cons_fits : (s : Option State) (l : Option (List State)) → Fit s → RowFit l → RowFit (cons_option s l)
 cons_fits none l x y = tt
 cons_fits (some s) none x y = tt
 cons_fits (some s) (some l) x y = (x, y)

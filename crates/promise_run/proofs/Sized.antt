@@ -329,5 +329,5 @@ module _ (g : Registration) (config : ConfigFits g.config) (ports : g.ports ≤ 
   events p (EventData.Disconnected f) l = then (departs p l) (updates f)
   events p EventData.Detached l = then (departs p l) (updates detached_reason)
 
-  pub event-sized : (p : ℕ) (e : EventData) (s : InternalState) (r : Records) → leb p 15 ≡ true → StateFits s → RecordsFit r → Sized (event g p e s r)
-  event-sized p e s r l f w = (events p e l).keeps (record { state = s; notices = [] }) r close (record { state = f; notices = refl }) w (λ h r' z v. z)
+  pub event_sized : (p : ℕ) (e : EventData) (s : InternalState) (r : Records) → leb p 15 ≡ true → StateFits s → RecordsFit r → Sized (event g p e s r)
+  event_sized p e s r l f w = (events p e l).keeps (record { state = s; notices = [] }) r close (record { state = f; notices = refl }) w (λ h r' z v. z)

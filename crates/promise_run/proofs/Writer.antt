@@ -100,15 +100,15 @@ module _ (H : ℕ → Display) where
           sym (same z) ∙ (sym (now_held t l) ∙ ap (λ k. held_at t l k) (sym y))
       go false x = ap (λ z. held_at z l n) e
 
-  moved-number : (s t : Service) (held heldₜ : Last) (before beforeₜ : InternalState) → Moved s t held heldₜ before beforeₜ → s.number ≤ t.number
-  moved-number s t held heldₜ before beforeₜ (stays e f g) = let x : t.number ≡ s.number = ap (λ (z : Service). z.number) e in omega (arith, x)
-  moved-number s t held heldₜ before beforeₜ (asks o e f g) = omega (arith, e)
-  moved-number s t held heldₜ before beforeₜ (closes e f) = omega (arith, e)
+  moved_number : (s t : Service) (held heldₜ : Last) (before beforeₜ : InternalState) → Moved s t held heldₜ before beforeₜ → s.number ≤ t.number
+  moved_number s t held heldₜ before beforeₜ (stays e f g) = let x : t.number ≡ s.number = ap (λ (z : Service). z.number) e in omega (arith, x)
+  moved_number s t held heldₜ before beforeₜ (asks o e f g) = omega (arith, e)
+  moved_number s t held heldₜ before beforeₜ (closes e f) = omega (arith, e)
 
-  moved-held : (s t : Service) (held heldₜ : Last) (before beforeₜ : InternalState) → Moved s t held heldₜ before beforeₜ → t.number ≡ s.number → display_of heldₜ.state ≡ display_of held.state
-  moved-held s t held heldₜ before beforeₜ (stays e f g) z = ap (λ (x : Last). display_of x.state) f
-  moved-held s t held heldₜ before beforeₜ (asks o e f g) z = ap (λ (x : Last). display_of x.state) f
-  moved-held s t held heldₜ before beforeₜ (closes e f) z = absurd (omega (arith, e, z))
+  moved_held : (s t : Service) (held heldₜ : Last) (before beforeₜ : InternalState) → Moved s t held heldₜ before beforeₜ → t.number ≡ s.number → display_of heldₜ.state ≡ display_of held.state
+  moved_held s t held heldₜ before beforeₜ (stays e f g) z = ap (λ (x : Last). display_of x.state) f
+  moved_held s t held heldₜ before beforeₜ (asks o e f g) z = ap (λ (x : Last). display_of x.state) f
+  moved_held s t held heldₜ before beforeₜ (closes e f) z = absurd (omega (arith, e, z))
 
   -- what was held at the number before
   abbrev Before : Service → InternalState → Type 0
@@ -140,13 +140,13 @@ module _ (H : ℕ → Display) where
   done_ok (Result.Err Error.Charger) e = absurd (omega (arith, e))
   done_ok (Result.Err Error.Failed) e = absurd (omega (arith, e))
 
-  picture-tells : (g : Registration) (number k : ℕ) (a : Result) (m : Memory) (held : Last) (before : InternalState) → Closed k a m held before → H number ≡ display_of held.state →
+  picture_tells : (g : Registration) (number k : ℕ) (a : Result) (m : Memory) (held : Last) (before : InternalState) → Closed k a m held before → H number ≡ display_of held.state →
       Tells (Packet.Picture (picture_of (service g number k (Phase.Closed a) m)))
-  picture-tells g number k a m held before c h = ap (λ (x : Last). display_of x.state) c.same ∙ sym h
+  picture_tells g number k a m held before c h = ap (λ (x : Last). display_of x.state) c.same ∙ sym h
 
-  packet-tells : (g : Registration) (number k : ℕ) (a : Result) (m : Memory) (held : Last) (before : InternalState) → Closed k a m held before → H number ≡ display_of held.state →
+  packet_tells : (g : Registration) (number k : ℕ) (a : Result) (m : Memory) (held : Last) (before : InternalState) → Closed k a m held before → H number ≡ display_of held.state →
       Before (service g number k (Phase.Closed a) m) before → Tells (Packet.Event (packet_of (service g number k (Phase.Closed a) m)))
-  packet-tells g number k a m held before c h b n e z =
+  packet_tells g number k a m held before c h b n e z =
       ap (λ l. applied_all l (H n)) (listed_same m.notices)
       ∙ (ap (λ d. applied_all (listed m.notices) d) (b n e)
       ∙ (sym (c.leads (done_ok a z)) ∙ (sym h ∙ ap H e)))
@@ -183,41 +183,41 @@ module _ (H : ℕ → Display) where
   not_open : {A : Type 0} → true ≡ false → A
   not_open e = absurd (eqb-false 0 0 e refl)
 
-  picture-at : (g : Registration) (number k : ℕ) (p : Phase) (m : Memory) (held : Last) (before : InternalState) → StateAt g number k p m held before → is_open p ≡ false → H number ≡ display_of held.state →
+  picture_at : (g : Registration) (number k : ℕ) (p : Phase) (m : Memory) (held : Last) (before : InternalState) → StateAt g number k p m held before → is_open p ≡ false → H number ≡ display_of held.state →
       Tells (Packet.Picture (picture_of (service g number k p m)))
-  picture-at g number k (Phase.Closed a) m held before c o h = picture-tells g number k a m held before c h
-  picture-at g number k (Phase.Leaving i p f) m held before c o h = not_open o
-  picture-at g number k (Phase.Switching l old f new) m held before c o h = not_open o
-  picture-at g number k (Phase.Connecting s new) m held before c o h = not_open o
-  picture-at g number k (Phase.Providing p d) m held before c o h = not_open o
+  picture_at g number k (Phase.Closed a) m held before c o h = picture_tells g number k a m held before c h
+  picture_at g number k (Phase.Leaving i p f) m held before c o h = not_open o
+  picture_at g number k (Phase.Switching l old f new) m held before c o h = not_open o
+  picture_at g number k (Phase.Connecting s new) m held before c o h = not_open o
+  picture_at g number k (Phase.Providing p d) m held before c o h = not_open o
 
-  packet-at : (g : Registration) (number k : ℕ) (p : Phase) (m : Memory) (held : Last) (before : InternalState) → StateAt g number k p m held before → is_open p ≡ false → H number ≡ display_of held.state →
+  packet_at : (g : Registration) (number k : ℕ) (p : Phase) (m : Memory) (held : Last) (before : InternalState) → StateAt g number k p m held before → is_open p ≡ false → H number ≡ display_of held.state →
       Before (service g number k p m) before → Tells (Packet.Event (packet_of (service g number k p m)))
-  packet-at g number k (Phase.Closed a) m held before c o h b = packet-tells g number k a m held before c h b
-  packet-at g number k (Phase.Leaving i p f) m held before c o h b = not_open o
-  packet-at g number k (Phase.Switching l old f new) m held before c o h b = not_open o
-  packet-at g number k (Phase.Connecting s new) m held before c o h b = not_open o
-  packet-at g number k (Phase.Providing p d) m held before c o h b = not_open o
+  packet_at g number k (Phase.Closed a) m held before c o h b = packet_tells g number k a m held before c h b
+  packet_at g number k (Phase.Leaving i p f) m held before c o h b = not_open o
+  packet_at g number k (Phase.Switching l old f new) m held before c o h b = not_open o
+  packet_at g number k (Phase.Connecting s new) m held before c o h b = not_open o
+  packet_at g number k (Phase.Providing p d) m held before c o h b = not_open o
 
-  writes-tells : (s : Service) (held : Last) (before : InternalState) (c : Call) (p : Packet) → Runs s held before → H s.number ≡ display_of held.state → Before s before → Sends s c p → Tells p
-  writes-tells s held before (open_event kind device detail r) p x h b w = absurd w
-  writes-tells s held before (give_answer a r) p x h b w = absurd w
-  writes-tells s held before write_packet p x h b w =
+  writes_tells : (s : Service) (held : Last) (before : InternalState) (c : Call) (p : Packet) → Runs s held before → H s.number ≡ display_of held.state → Before s before → Sends s c p → Tells p
+  writes_tells s held before (open_event kind device detail r) p x h b w = absurd w
+  writes_tells s held before (give_answer a r) p x h b w = absurd w
+  writes_tells s held before write_packet p x h b w =
       let q = sent s w.0 w.1 in
-      subst Tells (sym (w.2 ∙ ap Packet.Event q.1)) (packet-at s.registration s.number s.orders s.phase s.memory held before x.state q.0 h b)
-  writes-tells s held before write_picture p x h b w =
+      subst Tells (sym (w.2 ∙ ap Packet.Event q.1)) (packet_at s.registration s.number s.orders s.phase s.memory held before x.state q.0 h b)
+  writes_tells s held before write_picture p x h b w =
       let q = shown s w.0 w.1 in
-      subst Tells (sym (w.2 ∙ ap Packet.Picture q.1)) (picture-at s.registration s.number s.orders s.phase s.memory held before x.state q.0 h)
+      subst Tells (sym (w.2 ∙ ap Packet.Picture q.1)) (picture_at s.registration s.number s.orders s.phase s.memory held before x.state q.0 h)
 
-  pub wrote-tells : (l : List Call) (s : Service) (held : Last) (before : InternalState) (p : Packet) → CallsFit l → Runs s held before → Agrees (policy_of s held) l → Before s before → HasSent s l p → Tells p
-  wrote-tells (c ∷ l) s held before p cf x a b w =
-      ⊎_elim (λ z. writes-tells s held before c p x (now (policy_of s held) (c ∷ l) a) b z)
+  pub wrote_tells : (l : List Call) (s : Service) (held : Last) (before : InternalState) (p : Packet) → CallsFit l → Runs s held before → Agrees (policy_of s held) l → Before s before → HasSent s l p → Tells p
+  wrote_tells (c ∷ l) s held before p cf x a b w =
+      ⊎_elim (λ z. writes_tells s held before c p x (now (policy_of s held) (c ∷ l) a) b z)
       (λ z.
       let t = goes s held before c cf.0 x in
-      wrote-tells l (after_call s c) t.heldₜ t.beforeₜ p cf.1 t.runs
+      wrote_tells l (after_call s c) t.heldₜ t.beforeₜ p cf.1 t.runs
       (later (policy_of s held) c l (policy_of (after_call s c) t.heldₜ) t.same
-      (moved-number s (after_call s c) held t.heldₜ before t.beforeₜ t.moves)
-      (moved-held s (after_call s c) held t.heldₜ before t.beforeₜ t.moves) a)
+      (moved_number s (after_call s c) held t.heldₜ before t.beforeₜ t.moves)
+      (moved_held s (after_call s c) held t.heldₜ before t.beforeₜ t.moves) a)
       (before_on s (after_call s c) held t.heldₜ before t.beforeₜ t.moves (now (policy_of s held) (c ∷ l) a) b) z)
       w
 
@@ -388,7 +388,7 @@ grows : (l : List Call) (s : Service) (held : Last) (before : InternalState) →
 grows [] s held before cf x = omega arith
 grows (c ∷ l) s held before cf x =
     let t = goes s held before c cf.0 x in
-    let n : s.number ≤ (after_call s c).number = moved-number (λ k. display_of held.state) s (after_call s c) held t.heldₜ before t.beforeₜ t.moves in
+    let n : s.number ≤ (after_call s c).number = moved_number (λ k. display_of held.state) s (after_call s c) held t.heldₜ before t.beforeₜ t.moves in
     let m : (after_call s c).number ≤ (policies (policy_of (after_call s c) t.heldₜ) l).number = grows l (after_call s c) t.heldₜ t.beforeₜ cf.1 t.runs in
     subst (λ z. s.number ≤ (policies z l).number) (sym t.same) (omega (arith, n, m))
 

@@ -23,17 +23,17 @@ use Rattle.wire.specs.Packet.{notice, notices, ports}
 -- notices
 
 module _ (n i : ℕ) (h : i < n) (l : Notices) (r : List ℕ) where
-  notices-next : notices (n - i) l r ≡ then (notice r) (λ e. notices (n - (i + 1)) (pushed l e))
-  notices-next =
+  notices_next : notices (n - i) l r ≡ then (notice r) (λ e. notices (n - (i + 1)) (pushed l e))
+  notices_next =
       let e : n - i ≡ suc (n - (i + 1)) = omega arith in
       rw e
 
-  pub notices-more : {x : Parsed Notices} (m : Notices) (q : List ℕ) (e : Event) → x ≡ notices (n - i) l r → notice r ≡ parsed e q
+  pub notices_more : {x : Parsed Notices} (m : Notices) (q : List ℕ) (e : Event) → x ≡ notices (n - i) l r → notice r ≡ parsed e q
       → m ≡ pushed l e → x ≡ notices (n - (i + 1)) m q
-  notices-more m q e p f g = p ∙ (notices-next ∙ rw (f, g))
+  notices_more m q e p f g = p ∙ (notices_next ∙ rw (f, g))
 
-  pub notices-stop : {x : Parsed Notices} (k : ℕ) → x ≡ notices (n - i) l r → notice r ≡ refused k → x ≡ refused k
-  notices-stop k p f = p ∙ (notices-next ∙ rw f)
+  pub notices_stop : {x : Parsed Notices} (k : ℕ) → x ≡ notices (n - i) l r → notice r ≡ refused k → x ≡ refused k
+  notices_stop k p f = p ∙ (notices_next ∙ rw f)
 
 pub notices_end : {x : Parsed Notices} (n i : ℕ) (l : Notices) (r : List ℕ) → i ≡ n → x ≡ notices (n - i) l r → x ≡ parsed l r
 notices_end n i l r e p =
@@ -43,8 +43,8 @@ notices_end n i l r e p =
 -- tracked ports
 
 module _ (s : List ℕ) (n i : ℕ) (h : i < n) (low mask : ℕ) where
-  pub ports-cut : {x : Parsed Providers} → length s ≤ i → x ≡ ports (n - i) low mask (drop i s) → x ≡ refused 30
-  ports-cut k p =
+  pub ports_cut : {x : Parsed Providers} → length s ≤ i → x ≡ ports (n - i) low mask (drop i s) → x ≡ refused 30
+  ports_cut k p =
       let e : n - i ≡ suc (n - (i + 1)) = omega arith in
       p ∙ rw (e, drop_of_length-le s k)
 

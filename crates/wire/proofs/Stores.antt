@@ -104,14 +104,14 @@ bool_bit false = refl
 -- the ports that are left, from port i on
 
 module _ (i m : ℕ) (h : i < 16) where
-  next-port : 16 - i ≡ suc (16 - (i + 1))
-  next-port = omega arith
+  next_port : 16 - i ≡ suc (16 - (i + 1))
+  next_port = omega arith
 
-  pub port-set : m % 2 ≡ 1 → ports_from (16 - i) i m ≡ i ∷ ports_from (16 - (i + 1)) (i + 1) (m / 2)
-  port-set e = rw (next-port, eq-eqb (m % 2) 1 e, add-one i)
+  pub port_set : m % 2 ≡ 1 → ports_from (16 - i) i m ≡ i ∷ ports_from (16 - (i + 1)) (i + 1) (m / 2)
+  port_set e = rw (next_port, eq-eqb (m % 2) 1 e, add-one i)
 
-  pub port-clear : (m % 2 ≡ 1 → ⊥) → ports_from (16 - i) i m ≡ ports_from (16 - (i + 1)) (i + 1) (m / 2)
-  port-clear e = rw (next-port, ne_eqb (m % 2) 1 e, add-one i)
+  pub port_clear : (m % 2 ≡ 1 → ⊥) → ports_from (16 - i) i m ≡ ports_from (16 - (i + 1)) (i + 1) (m / 2)
+  port_clear e = rw (next_port, ne_eqb (m % 2) 1 e, add-one i)
 
 -- the loop over ports: what is left to store completes what was stored
 pub record Left (o : List ℕ) (at : ℕ) (all out : List ℕ) (next i m : ℕ) : Type 0 where
@@ -119,14 +119,14 @@ pub record Left (o : List ℕ) (at : ℕ) (all out : List ℕ) (next i m : ℕ) 
   pub bytes : sets out next (ports_from (16 - i) i m) ≡ sets o at all
 
 module _ {o all out : List ℕ} {at next i m : ℕ} (h : i < 16) (l : Left o at all out next i m) where
-  pub left-set : m % 2 ≡ 1 → Left o at all (set out next i) (next + 1) (i + 1) (m / 2)
-  left-set e = record {
-    place = omega (arith, rw (port-set i m h e) at l.place);
-    bytes = rw (add-one next) (rw (port-set i m h e) at l.bytes);
+  pub left_set : m % 2 ≡ 1 → Left o at all (set out next i) (next + 1) (i + 1) (m / 2)
+  left_set e = record {
+    place = omega (arith, rw (port_set i m h e) at l.place);
+    bytes = rw (add-one next) (rw (port_set i m h e) at l.bytes);
   }
 
-  pub left-clear : (m % 2 ≡ 1 → ⊥) → Left o at all out next (i + 1) (m / 2)
-  left-clear e = record { place = rw (port-clear i m h e) at l.place; bytes = rw (port-clear i m h e) at l.bytes }
+  pub left_clear : (m % 2 ≡ 1 → ⊥) → Left o at all out next (i + 1) (m / 2)
+  left_clear e = record { place = rw (port_clear i m h e) at l.place; bytes = rw (port_clear i m h e) at l.bytes }
 
 pub left_done : {o all out : List ℕ} {at next m : ℕ} → Left o at all out next 16 m → (next ≡ at + length all) × (out ≡ sets o at all)
 left_done {o} {all} {out} {at} {next} {m} l = (sym (add-zero next) ∙ l.place, l.bytes)

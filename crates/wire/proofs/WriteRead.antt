@@ -245,9 +245,9 @@ module _ (q : List ℕ) (e : Event) (r : List ℕ) where
           let y : w ≡ r = cc in
           record { front = ap (λ (l : List ℕ). 1 ∷ l) z ∙ (λ i. notice_bytes (n i) ++ y i); fit = ap notice_fits (sym n) ∙ hp }
 
-  two-told : AllBytes q → consumer_connected q ≡ parsed e r → Read notice_bytes notice_fits (2 ∷ q) e r
+  two_told : AllBytes q → consumer_connected q ≡ parsed e r → Read notice_bytes notice_fits (2 ∷ q) e r
   unfolding consumer_connected notice_bytes
-  two-told h p =
+  two_told h p =
       let t = then_told (consumer q) _ e r p in
       let g = consumer_told q t.value t.rest h t.first in
       made t.value t.rest g.front g.fit t.second
@@ -260,9 +260,9 @@ module _ (q : List ℕ) (e : Event) (r : List ℕ) where
           let y : w ≡ r = cc in
           record { front = ap (λ (l : List ℕ). 2 ∷ l) z ∙ (λ i. notice_bytes (n i) ++ y i); fit = ap notice_fits (sym n) ∙ hf }
 
-  three-told : provider_disconnected q ≡ parsed e r → Read notice_bytes notice_fits (3 ∷ q) e r
+  three_told : provider_disconnected q ≡ parsed e r → Read notice_bytes notice_fits (3 ∷ q) e r
   unfolding provider_disconnected notice_bytes
-  three-told p =
+  three_told p =
       let t = then_told (field 15 q) _ e r p in
       let f = field_told 15 q t.value t.rest t.first in
       made t.value t.rest f.0 f.1 t.second
@@ -274,9 +274,9 @@ module _ (q : List ℕ) (e : Event) (r : List ℕ) where
           let y : w ≡ r = cc in
           record { front = ap (λ (l : List ℕ). 3 ∷ l) z ∙ (λ i. notice_bytes (n i) ++ y i); fit = ap notice_fits (sym n) ∙ hp }
 
-  four-told : AllBytes q → provider_connected q ≡ parsed e r → Read notice_bytes notice_fits (4 ∷ q) e r
+  four_told : AllBytes q → provider_connected q ≡ parsed e r → Read notice_bytes notice_fits (4 ∷ q) e r
   unfolding provider_connected notice_bytes
-  four-told h p =
+  four_told h p =
       let t = then_told (contract q) _ e r p in
       let g = contract_told q t.value t.rest h t.first in
       let w = then_told (provider_flags_given (provider_flags_from t.value.flags) t.rest) _ e r t.second in
@@ -296,9 +296,9 @@ module _ (q : List ℕ) (e : Event) (r : List ℕ) where
           let y : w ≡ r = cc in
           record { front = ap (λ (l : List ℕ). 4 ∷ l) z ∙ (λ i. notice_bytes (n i) ++ y i); fit = ap notice_fits (sym n) ∙ hf }
 
-  five-told : unconstrained_changed q ≡ parsed e r → Read notice_bytes notice_fits (5 ∷ q) e r
+  five_told : unconstrained_changed q ≡ parsed e r → Read notice_bytes notice_fits (5 ∷ q) e r
   unfolding unconstrained_changed notice_bytes
-  five-told p =
+  five_told p =
       let t = then_told (unconstrained q) _ e r p in
       let g = unconstrained_told q t.value t.rest t.first in
       made t.value t.rest g.front g.fit t.second
@@ -310,20 +310,20 @@ module _ (q : List ℕ) (e : Event) (r : List ℕ) where
           let y : w ≡ r = cc in
           record { front = ap (λ (l : List ℕ). 5 ∷ l) z ∙ (λ i. notice_bytes (n i) ++ y i); fit = ap notice_fits (sym n) ∙ hf }
 
-  kind-told : (kind : ℕ) → AllBytes q → notice_of kind q ≡ parsed e r → Read notice_bytes notice_fits (kind ∷ q) e r
+  kind_told : (kind : ℕ) → AllBytes q → notice_of kind q ≡ parsed e r → Read notice_bytes notice_fits (kind ∷ q) e r
   unfolding notice_of
-  kind-told zero h p = absurd (let z : ◌≡◌ {A = ℕ} 0 1 = cc in omega arith)
-  kind-told (suc zero) h p = one_told p
-  kind-told (suc (suc zero)) h p = two-told h p
-  kind-told (suc (suc (suc zero))) h p = three-told p
-  kind-told (suc (suc (suc (suc zero)))) h p = four-told h p
-  kind-told (suc (suc (suc (suc (suc zero))))) h p = five-told p
-  kind-told (suc (suc (suc (suc (suc (suc k)))))) h p = absurd (let z : ◌≡◌ {A = ℕ} 0 1 = cc in omega arith)
+  kind_told zero h p = absurd (let z : ◌≡◌ {A = ℕ} 0 1 = cc in omega arith)
+  kind_told (suc zero) h p = one_told p
+  kind_told (suc (suc zero)) h p = two_told h p
+  kind_told (suc (suc (suc zero))) h p = three_told p
+  kind_told (suc (suc (suc (suc zero)))) h p = four_told h p
+  kind_told (suc (suc (suc (suc (suc zero))))) h p = five_told p
+  kind_told (suc (suc (suc (suc (suc (suc k)))))) h p = absurd (let z : ◌≡◌ {A = ℕ} 0 1 = cc in omega arith)
 
 pub notice_told : (s : List ℕ) (e : Event) (r : List ℕ) → AllBytes s → notice s ≡ parsed e r → Read notice_bytes notice_fits s e r
 unfolding notice
 notice_told s e r h p =
     let t = then_told (byte s) _ e r p in
     let f = byte_told s t.value t.rest t.first in
-    let g = kind-told t.rest e r t.value (rest_bytes s (t.value ∷ []) t.rest f h) t.second in
+    let g = kind_told t.rest e r t.value (rest_bytes s (t.value ∷ []) t.rest f h) t.second in
     record { front = f ∙ g.front; fit = g.fit }

@@ -73,9 +73,9 @@ frame_told s u n e = tested (eqb (length s) 0) e
 -- length, packet and rest: the packet's bytes, whatever follows
 
 module _ (p rest : List ℕ) (least : 1 ≤ length p) (most : length p ≤ 64) where
-  pub framed-packet : framed (leb128 (length p) ++ (p ++ rest)) ≡ Framed.Frame (length (leb128 (length p))) (length p)
+  pub framed_packet : framed (leb128 (length p) ++ (p ++ rest)) ≡ Framed.Frame (length (leb128 (length p))) (length p)
   unfolding framed
-  framed-packet =
+  framed_packet =
       let n = length p in
       let l = leb128 n in
       let all : length (l ++ (p ++ rest)) ≡ length l + (n + length rest) = length-append l (p ++ rest) ∙ ap (λ (k : ℕ). length l + k) (length-append p rest) in
@@ -85,8 +85,8 @@ module _ (p rest : List ℕ) (least : 1 ≤ length p) (most : length p ≤ 64) w
       let fits : n ≤ 4294967295 = omega arith in
       rw (ne_eqb (length (l ++ (p ++ rest))) 0 some, read_write 4294967295 n (p ++ rest) fits fits, ne_eqb n 0 none, le-ltb 64 n most, le-leb (length l + n) (length (l ++ (p ++ rest))) there)
 
-  pub packet-there : take (length p) (drop (length (leb128 (length p))) (leb128 (length p) ++ (p ++ rest))) ≡ p
-  packet-there = rw (drop-append_seam (leb128 (length p)) (p ++ rest)) (take-append_seam p rest)
+  pub packet_there : take (length p) (drop (length (leb128 (length p))) (leb128 (length p) ++ (p ++ rest))) ≡ p
+  packet_there = rw (drop-append_seam (leb128 (length p)) (p ++ rest)) (take-append_seam p rest)
 
 -- a frame is its length, the packet and the rest
 pub frame_bytes : (s : List ℕ) (u n : ℕ) → AllBytes s → framed s ≡ Framed.Frame u n → s ≡ leb128 n ++ drop u s

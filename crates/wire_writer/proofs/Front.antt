@@ -25,9 +25,9 @@ start : (o : List ℕ) → 64 ≤ length o → Front o (λ (ws : List ℕ). ws) 
 start o h = record { put = λ ws q t p. p; near = omega arith; wide = h; same = refl }
 
 module _ {o l : List ℕ} {parts : List ℕ → List ℕ} {at most : ℕ} (f : Front o parts at l most) where
-  pub then-put : (vs : List ℕ) (k : ℕ) {r : ℕ} {m : List ℕ} → r ≡ at + length vs → m ≡ sets l at vs → r ≤ at + k
+  pub then_put : (vs : List ℕ) (k : ℕ) {r : ℕ} {m : List ℕ} → r ≡ at + length vs → m ≡ sets l at vs → r ≤ at + k
       → Front o (λ (ws : List ℕ). parts (vs ++ ws)) r m (most + k)
-  then-put vs k {r} {m} e g h =
+  then_put vs k {r} {m} e g h =
       let p : Put l at vs r m = record { place = e; bytes = g } in
       record {
         put = λ ws q t b. f.put (vs ++ ws) q t (joined p b);
@@ -39,20 +39,20 @@ module _ {o l : List ℕ} {parts : List ℕ → List ℕ} {at most : ℕ} (f : F
   pub then_one : (x : ℕ) → Front o (λ (ws : List ℕ). parts (x ∷ ws)) (at + 1) (set l at x) (most + 1)
   then_one x =
       let p = one l at x in
-      then-put (x ∷ []) 1 p.place p.bytes (omega arith)
+      then_put (x ∷ []) 1 p.place p.bytes (omega arith)
 
-  pub then-three : (x y z : ℕ)
+  pub then_three : (x y z : ℕ)
       → Front o (λ (ws : List ℕ). parts (x ∷ y ∷ z ∷ ws)) (at + 3) (set (set (set l at x) (at + 1) y) (at + 2) z) (most + 3)
-  then-three x y z =
+  then_three x y z =
       let p = three l at x y z in
-      then-put (x ∷ y ∷ z ∷ []) 3 p.place p.bytes (omega arith)
+      then_put (x ∷ y ∷ z ∷ []) 3 p.place p.bytes (omega arith)
 
-  pub then-number : (n : ℕ) {r : ℕ} {m : List ℕ} → most + 5 ≤ 64 → r ≡ next l at n → m ≡ written l at n
+  pub then_number : (n : ℕ) {r : ℕ} {m : List ℕ} → most + 5 ≤ 64 → r ≡ next l at n → m ≡ written l at n
       → Front o (λ (ws : List ℕ). parts (leb128 n ++ ws)) r m (most + 5)
-  then-number n {r} {m} h e g =
+  then_number n {r} {m} h e g =
       let k : at + 5 ≤ length l = omega (arith, f.near, f.wide, h) in
       let p = put_number l m at r n k e g in
-      then-put (leb128 n) 5 p.place p.bytes (omega (arith, p.place, length_to n))
+      then_put (leb128 n) 5 p.place p.bytes (omega (arith, p.place, length_to n))
 
   -- the part put last makes the packet whole
   pub whole : (vs : List ℕ) {r : ℕ} {m : List ℕ} → r ≡ at + length vs → m ≡ sets l at vs
@@ -68,4 +68,4 @@ module _ {o l : List ℕ} {parts : List ℕ → List ℕ} {at most : ℕ} (f : F
 -- both packets begin with a kind and a number
 pub headed : (o : List ℕ) (kind n : ℕ) {r : ℕ} {m : List ℕ} → 64 ≤ length o → r ≡ next (set o 0 kind) 1 n → m ≡ written (set o 0 kind) 1 n
     → Front o (λ (ws : List ℕ). kind ∷ (leb128 n ++ ws)) r m 6
-headed o kind n h e g = then-number (then_one (start o h) kind) n (lit≤ tt) e g
+headed o kind n h e g = then_number (then_one (start o h) kind) n (lit≤ tt) e g
