@@ -1,6 +1,6 @@
 -- A bit is 0 or 1; so many bits are at most their number; and 1 shifted left by a port's number, below 16, is not cut.
 -- Assumes nothing.
-use mathlib.Core.Path.{◌≡◌, refl, ap, ◌∙◌}
+use mathlib.Core.Path.{◌≡◌}
 use Prim.Native.Nat.{ℕ, zero, suc, ◌+◌, ◌*◌, ◌/◌, ◌%◌, ◌^◌, ◌≤◌, ◌<◌, zero-le}
 use native.Mathlib.Nat.{mod-lt, one-mul, mod-eq_of_lt}
 use native.Mathlib.Numerals.{add-one}

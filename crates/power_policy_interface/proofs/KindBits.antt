@@ -1,6 +1,6 @@
 -- A kind's number is below 8, so its bit fits a byte.
 -- Assumes nothing.
-use Rattle.std.specs.Prelude.{◌≡◌, ℕ, ◌*◌, ◌%◌, ◌^◌, ◌<◌}
+use Rattle.std.specs.Prelude.{◌≡◌, ◌*◌, ◌%◌, ◌^◌, ◌<◌}
 use mathlib.Core.Path.{refl}
 use lib.Dec.{lit<}
 use Rattle.power_policy_interface.specs.Psu.{kind_number}

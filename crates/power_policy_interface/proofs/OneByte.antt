@@ -22,7 +22,6 @@ use Rattle.power_policy_interface.specs.declared.capability.OptionDisconnectFlag
 use Rattle.power_policy_interface.specs.declared.psu.Error.{Error}
 use Rattle.power_policy_interface.specs.declared.psu.Result.{Result}
 use Rattle.power_policy_interface.specs.declared.psu.OptionResult.{OptionResult}
-use Rattle.power_policy_interface.specs.declared.psu.OptionMismatch.{OptionMismatch}
 
 -- the type's number, there and back
 

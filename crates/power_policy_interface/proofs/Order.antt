@@ -1,7 +1,7 @@
 -- `cmp_nat` is the order of numbers: by induction on both, since the native comparison takes one off each side.
 -- Assumes nothing.
 use Rattle.std.specs.Prelude.{◌≡◌, ℕ, zero, suc, ◌<◌}
-use mathlib.Core.Path.{refl, ap, ◌∙◌}
+use mathlib.Core.Path.{ap, ◌∙◌}
 use Prim.Native.Nat.compare
 use Prim.Native.Nat.{compare}
 use native.Mathlib.Nat.{le_of_suc-le-suc, not-suc-le-zero}

@@ -1,7 +1,7 @@
 -- The tests of equality are true exactly at equal values: a record is its fields, and a flag byte is read back to its flags.
 -- Assumes nothing.
-use Rattle.std.specs.Prelude.{◌≡◌, ℕ, Bool, true, false, ◌&&◌, T, eqb}
-use mathlib.Core.Path.{refl, ap, sym, ◌∙◌}
+use Rattle.std.specs.Prelude.{◌≡◌, Bool, true, false, ◌&&◌, T, eqb}
+use mathlib.Core.Path.{refl, ap}
 use mathlib.Core.Bool.{beq}
 use lib.Dec.{eqb→eq, eqb_refl}
 use Rattle.power_policy_interface.specs.Capability.{same_capability, same_consumer, same_provider, same_option_provider, consumer_flags_byte, provider_flags_byte}

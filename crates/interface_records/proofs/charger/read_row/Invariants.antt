@@ -1,14 +1,11 @@
 -- The row's loop by the laws of Row, for the charger record.
-use mathlib.Core.Path.{sym, ◌∙◌, ap}
 use mathlib.Core.List.{List}
 use mathlib.Core.Option.{Option}
-use Prim.Native.Nat.{ℕ, ◌-◌, ◌<◌, ◌≤◌}
-use native.Mathlib.Omega.{arith}
-use Rattle.std.proofs.Common.{rules}
+use Prim.Native.Nat.{ℕ, ◌-◌}
 use Rattle.power_policy_interface.specs.Charger.{default_state}
 use Rattle.power_policy_interface.specs.declared.charger.State.{State}
 use Rattle.interface_records.specs.Charger.{read_charger, charger_from}
-use Rattle.interface_records.proofs.Row.{Reached, too_many, other_length, begun, gone_on, turned_back, all_read}
+use Rattle.interface_records.proofs.Row.{Reached}
 use Rattle.interface_records.proofs.charger.read_row.Given as goal
 
 abbrev pub read_at : List ℕ → Option State

@@ -2,13 +2,13 @@
 use mathlib.Core.Path.{sym, ◌∙◌, ap}
 use mathlib.Core.List.{List}
 use mathlib.Core.Option.{Option}
-use Prim.Native.Nat.{ℕ, ◌-◌, ◌<◌, ◌≤◌}
+use Prim.Native.Nat.{ℕ, ◌<◌, ◌≤◌}
 use native.Mathlib.Omega.{arith}
 use Rattle.std.proofs.Common.{rules}
 use Rattle.power_policy_interface.specs.Psu.{default_state}
 use Rattle.power_policy_interface.specs.declared.psu.State.{State}
 use Rattle.interface_records.specs.Psu.{read_psu, psu_from}
-use Rattle.interface_records.proofs.Row.{Reached, too_many, other_length, begun, gone_on, turned_back, all_read}
+use Rattle.interface_records.proofs.Row.{gone_on, turned_back, all_read}
 use Rattle.interface_records.proofs.psu.read_row.Goals as goal
 
 abbrev readAt : List ℕ → Option State

@@ -1,10 +1,6 @@
 -- The count after i places is that of the first i bits.
-use Prim.Native.Nat.{ℕ, ◌≤◌, ◌-◌, ◌+◌}
-use Rattle.std.proofs.Common.{rules}
-use mathlib.Core.Path.{◌≡◌, refl, sym, ◌∙◌, ap}
 use native.Mathlib.Omega.{arith}
-use Rattle.interface_display.specs.Providers.{ones, bit_at}
-use Rattle.interface_display.proofs.Count.{bit_le, ones_le, ones_next, tested}
+use Rattle.interface_display.proofs.Count.{bit_le, ones_le, tested}
 use Rattle.interface_display.proofs.providers.Providers.len.Goals as goal
 
 pub overflow_add-n : goal.overflow_add-n

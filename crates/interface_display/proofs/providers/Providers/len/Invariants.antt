@@ -1,10 +1,7 @@
 -- The count after i places is that of the first i bits.
-use Prim.Native.Nat.{ℕ, ◌≤◌, ◌-◌, ◌+◌}
-use Rattle.std.proofs.Common.{rules}
-use mathlib.Core.Path.{◌≡◌, refl, sym, ◌∙◌, ap}
-use native.Mathlib.Omega.{arith}
-use Rattle.interface_display.specs.Providers.{ones, bit_at}
-use Rattle.interface_display.proofs.Count.{bit_le, ones_le, ones_next, tested}
+use Prim.Native.Nat.{◌≤◌, ◌-◌}
+use mathlib.Core.Path.{◌≡◌}
+use Rattle.interface_display.specs.Providers.{ones}
 use Rattle.interface_display.proofs.providers.Providers.len.Given as goal
 
 abbrev pub invariant-loop-i : goal.invariant-loop-i
