@@ -1,14 +1,13 @@
 -- The two statements of the choice are equal. Rust's order of the pairs (m_w, is current) is that of the numbers 2 × m_w + (1 if current), and
 -- the earliest port with the greatest such number is what DEM-2c says.
-use mathlib.Core.Path.{◌≡◌, refl, sym, ap, ◌∙◌, subst}
+use mathlib.Core.Path.{◌≡◌, refl, sym, ap, ◌∙◌}
 use mathlib.Core.Bool.{Bool, true, false, cond}
 use mathlib.Core.List.{List}
 use mathlib.Core.Logic.{◌⊎◌, inl, inr, ⊎_elim}
 use Prim.Native.Nat.{ℕ, zero, suc, ◌+◌, ◌*◌, ◌<◌, ◌≤◌}
 use native.Mathlib.Omega.{arith}
-use lib.Dec.{ltb, eqb}
+use lib.Dec.{ltb}
 use borrow.Author.Tests.{ltb-true, ltb-false, lt-ltb, le-ltb, eqb-true, eqb-false}
-use Rattle.power_policy_interface.specs.Capability.{max_power_mw, cmp_capability}
 use Rattle.power_policy_interface.specs.Order.{cmp_nat, cmp_bool, then_with}
 use Rattle.power_policy_interface.specs.declared.capability.ConsumerPowerCapability.{ConsumerPowerCapability}
 use Rattle.power_policy_interface.specs.declared.capability.OptionConsumerPowerCapability.{OptionConsumerPowerCapability}
@@ -17,7 +16,7 @@ use Rattle.power_policy_interface.proofs.Order.{cmp_less, cmp_greater, cmp_equal
 use Rattle.interface_display.specs.declared.AvailableConsumer.{AvailableConsumer}
 use Rattle.interface_display.specs.declared.OptionAvailableConsumer.{OptionAvailableConsumer}
 use Rattle.power_policy_service.specs.Choice.{mw, Eligible, Best, Chosen}
-use Rattle.power_policy_service.specs.Consumer.{cmp_consumer, eligible, is_current, available, replaced, better_of, best_of}
+use Rattle.power_policy_service.specs.Consumer.{eligible, is_current, available, replaced, better_of, best_of}
 use Rattle.power_policy_service.specs.Rows.{psu_at}
 use Rattle.power_policy_service.specs.declared.config.OptionMilliwatts.{OptionMilliwatts}
 use Rattle.power_policy_service.proofs.Greatest.{not_both, greater, greatest, Earliest, Found, found, only_one}
