@@ -278,9 +278,9 @@ def numbers(texts):
 
 # in code, and in the definitions
 LIMITS = {
-    "LARGEST": "largest", "MAX_PORTS": "maxPorts", "MAX_CHARGERS": "maxChargers", "MAX_ORDERS": "maxOrders", "MAX_NOTICES": "maxNotices", "WINDOW": "window",
-    "PSU_RECORD": "psuLength", "CHARGER_RECORD": "chargerLength", "SERVICE_IMAGE": "serviceLength", "FOLLOWER_IMAGE": "followerLength", "BUFFER": "bufferLength",
-    "PAGE": "pageLength",
+    "LARGEST": "largest", "MAX_PORTS": "max_ports", "MAX_CHARGERS": "max_chargers", "MAX_ORDERS": "max_orders", "MAX_NOTICES": "max_notices", "WINDOW": "window",
+    "PSU_RECORD": "psu_length", "CHARGER_RECORD": "charger_length", "SERVICE_IMAGE": "service_length", "FOLLOWER_IMAGE": "follower_length", "BUFFER": "buffer_length",
+    "PAGE": "page_length",
 }
 
 
@@ -302,7 +302,7 @@ def waits(texts):
     places = (
         ("the header", without_comments(texts["header"]), r"^#define POWER_POLICY_WAIT_MS (\d+)\s*$"),
         ("the Rust crate", without_comments(texts["crate"]), r"^pub const WAIT_MILLIS: u64 = (\d+);"),
-        ("the definition", texts["definition"], r"^\s*waitMs\s*=\s*(\d+)\s*$"),
+        ("the definition", texts["definition"], r"^\s*wait_ms\s*=\s*(\d+)\s*$"),
         ("the Rattle const", without_comments(texts["numbers"]), r"^\s*(?:pub\s+)?const\s+WAIT_MS\s*:\s*u16\s*=\s*(\d+)\s*;"),
     )
     return {place: [int(value) for value in re.findall(pattern, text, flags=re.M)] for place, text, pattern in places}
@@ -407,8 +407,8 @@ def changes(texts):
         ("limits", "MAX_ORDERS: u8 = 35", "MAX_ORDER: u8 = 35"),
         ("limits", "PAGE: usize = 246", "PAGE: usize = 245"),
         ("defined limits", "window = 8", "window = 9"),
-        ("defined limits", "pageLength = 246", "pageLength = 247"),
-        ("defined limits", "followerLength = 241", "followersLength = 241"),
+        ("defined limits", "page_length = 246", "page_length = 247"),
+        ("defined limits", "follower_length = 241", "followersLength = 241"),
         ("ffi", "threshold_mw: u64", "threshold_mw: u32"),
         ("ffi", "packet: *const u8", "packet: *mut u8"),
         ("ffi", "            kind,\n            device,\n", "            device,\n            kind,\n"),
@@ -417,9 +417,9 @@ def changes(texts):
         ("state", "| `power_policy_follower_write_page` |", "| `power_policy_follower_page` |"),
         ("header", "POWER_POLICY_WAIT_MS 800", "POWER_POLICY_WAIT_MS 801"),
         ("crate", "WAIT_MILLIS: u64 = 800", "WAIT_MILLIS: u64 = 8000"),
-        ("definition", "waitMs = 800", "waitMs = 80"),
-        ("definition", "waitMs = 800", "waitsMs = 800"),
-        ("definition", "waitMs = 800", "waitMs = 800\nwaitMs = 800"),
+        ("definition", "wait_ms = 800", "wait_ms = 80"),
+        ("definition", "wait_ms = 800", "waitsMs = 800"),
+        ("definition", "wait_ms = 800", "wait_ms = 800\nwaitMs = 800"),
         ("header", 'POWER_POLICY_VERSION "0.', 'POWER_POLICY_VERSION "9.'),
         ("header", "POWER_POLICY_VERSION_NUMBER ", "POWER_POLICY_VERSION_NUMBER 9"),
         ("cargo", '\nversion = "0.', '\nversion = "9.'),

@@ -1,7 +1,8 @@
 #!/usr/bin/env python3
 """Brings this repository's own definitions and lemmas to the spelling of Rattle's library, after the kit's port.py has been over it.
 
-usage: tools/respell.py [--dry] FOLDER     the crates of FOLDER (specs/, proofs/, and what contracts cite of them in src/)
+usage: tools/respell.py [--dry] FOLDER          the crates of FOLDER (specs/, proofs/, and what contracts cite of them in src/)
+       tools/respell.py --pages FOLDER FILE..   pages and scripts, which name what the crates of FOLDER declared before they were respelled
 
 A function, a lemma, a field and a constructor of antt are in snake case, a function into `Type` is in upper camel case, a prime is `'`; a dash stays beside a
 type. A lemma that would have a function's name gets `_lem`. What Rust or Rattle named, as a function of src/ and its proof's goals, keeps its name. Paths of the
@@ -34,6 +35,8 @@ def by_hand(path):
 
 
 def snake(word):
+    if word == "mW":
+        return "mw_of"
     if not word or not word[0].islower() or not re.search(r"[A-Z]", word):
         return word
     word = re.sub(r"([a-z0-9])([A-Z]+)(?=[A-Z][a-z])", lambda m: m.group(1) + "_" + m.group(2).lower() + "_", word)
@@ -140,7 +143,7 @@ def respelled(text, names, rt):
         comment = re.match(r"^\s*(--|//)", line)
         if comment:
             line = re.sub(r"`[^`]*`", lambda m: TOKEN.sub(one, m.group(0)), line)
-            line = TOKEN.sub(lambda m: m.group(0) if "-" in m.group(0) else one(m), line)
+            line = TOKEN.sub(lambda m: m.group(0) if "-" in m.group(0) or m.group(0) == "mW" else one(m), line)
         elif rt and '"' in line:
             parts = re.split(r'("(?:[^"\\]|\\.)*")', line)
             line = "".join(p if p.startswith('"') else TOKEN.sub(one, p) for p in parts)
@@ -160,7 +163,28 @@ def from_elsewhere(text, own):
     return found
 
 
+def pages(root, paths):
+    """In a page a name with a dash is respelled in code alone, since words have dashes too."""
+    heads, names, _ = plan(root)
+    apart(heads, names)
+
+    def one(m):
+        return names.get(m.group(0), m.group(0))
+
+    for path in paths:
+        with open(path, encoding="utf-8") as f:
+            text = f.read()
+        new = re.sub(r"`[^`\n]+`", lambda m: TOKEN.sub(one, m.group(0)), text) if path.endswith(".md") else text
+        new = TOKEN.sub(lambda m: m.group(0) if "-" in m.group(0) or m.group(0) == "mW" else one(m), new)
+        if new != text:
+            with open(path, "w", encoding="utf-8") as f:
+                f.write(new)
+
+
 def main():
+    if "--pages" in sys.argv:
+        root, *paths = [a for a in sys.argv[1:] if not a.startswith("-")]
+        return pages(root, paths)
     dry = "--dry" in sys.argv
     root = [a for a in sys.argv[1:] if not a.startswith("-")][0]
     heads, names, both = plan(root)

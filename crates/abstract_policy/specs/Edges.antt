@@ -108,7 +108,7 @@ pub record EventEdges : Type 0 where
   -- EDG-6 (P6): a lone request 15,000 mV, 1,000 mA is granted 5,000 mV, 3,000 mA
   pub P6 : brings 0 (opened 1 0 EventData.RequestedProviderCapability fresh_state (requesting (contract 15000 1000) ∷ []))
       ≡ Step.Order (Order.ConnectProvider 0 (contract 5000 3000))
-  -- EDG-7 (P7), MIS-3: request 5,000 mV, 500 mA beside a contract of 15,000 m_w: granted 5,000 mV, 1,500 mA
+  -- EDG-7 (P7), MIS-3: request 5,000 mV, 500 mA beside a contract of 15,000 mW: granted 5,000 mV, 1,500 mA
   pub P7 : brings 0 (opened 2 0 EventData.RequestedProviderCapability fresh_state (requesting (contract 5000 500) ∷ providing (contract 5000 3000) ∷ []))
       ≡ Step.Order (Order.ConnectProvider 0 (contract 5000 1500))
   -- EDG-10 (P10): fifth provider (0 to 3 are tracked): notice, not tracked, no notice on removal

@@ -45,7 +45,7 @@ event1 =
 abbrev event3 : Packet
 event3 = Packet.Event (record { number = 3; answer = 7; orders = 1; notices = empty })
 
--- a line of `follow`: n, state, consumer port, its m_w
+-- a line of `follow`: n, state, consumer port, its mW
 record Line : Type 0 where
   n : OptionNumber
   state : State

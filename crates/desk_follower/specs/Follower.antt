@@ -72,7 +72,7 @@ abbrev pub state_at : Shown → Bool → State
 state_at (Shown.Lost floor) none = State.Lost
 state_at (Shown.Picture s) none = cond none State.Level State.Waiting
 
--- the consumer's port and its m_w
+-- the consumer's port and its mW
 abbrev pub port_in : OptionAvailableConsumer → OptionNumber
 port_in OptionAvailableConsumer.None = OptionNumber.None
 port_in (OptionAvailableConsumer.Some c) = OptionNumber.Some c.psu

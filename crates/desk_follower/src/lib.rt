@@ -271,7 +271,7 @@ impl Shown {
         }
     }
 
-    // The consumer's maximum power in m_w.
+    // The consumer's maximum power in mW.
     pub fn mw(self) -> OptionNumber
         ensures { result ≡ mw_of self }
     {

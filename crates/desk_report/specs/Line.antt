@@ -6,7 +6,7 @@ use Rattle.desk_follower.specs.declared.Follower.{Follower}
 use Rattle.desk_report.specs.Text.{number, refused}
 use Rattle.desk_report.specs.declared.line.Line.{Line}
 
--- what a line says of a follower: n, state, consumer port, its m_w
+-- what a line says of a follower: n, state, consumer port, its mW
 unfoldable pub line_of : Follower → Line
 line_of f =
     record {
@@ -20,7 +20,7 @@ line_of f =
 abbrev pub spaced : List ℕ → List ℕ
 spaced l = 32 ∷ l
 
--- PRG-3: ordinal, n, state, port, m_w
+-- PRG-3: ordinal, n, state, port, mW
 unfoldable pub line_bytes : ℕ → Line → List ℕ
 line_bytes k l =
     decimal k

@@ -14,7 +14,7 @@ pub struct Line {
     // The number of the event shown.
     pub shown: OptionNumber,
     pub state: State,
-    // The consumer's port and its m_w.
+    // The consumer's port and its mW.
     pub port: OptionNumber,
     pub mw: OptionNumber,
 }
@@ -32,7 +32,7 @@ impl Line {
         }
     }
 
-    // Ordinal, n, state, port, m_w.
+    // Ordinal, n, state, port, mW.
     pub fn write(self, k: u64, out: &mut [u8; 128]) -> usize
         ensures { (result ≡ length (line_bytes k self)) × (out.new ≡ sets out.old 0 (line_bytes k self)) }
     {

@@ -18,7 +18,7 @@ use Rattle.power_policy_interface.specs.declared.capability.OptionDisconnectReas
 use Rattle.power_policy_interface.specs.declared.capability.DisconnectFlags.{DisconnectFlags}
 use Rattle.power_policy_interface.specs.declared.capability.OptionDisconnectFlags.{OptionDisconnectFlags}
 
--- LEA-1: m_w = mV × mA / 1000, rounded down
+-- LEA-1: mW = mV × mA / 1000, rounded down
 abbrev pub max_power_mw : PowerCapability → ℕ
 max_power_mw c = c.voltage_mv * c.current_ma / 1000
 

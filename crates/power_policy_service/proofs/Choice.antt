@@ -1,4 +1,4 @@
--- The two statements of the choice are equal. Rust's order of the pairs (m_w, is current) is that of the numbers 2 × m_w + (1 if current), and
+-- The two statements of the choice are equal. Rust's order of the pairs (mW, is current) is that of the numbers 2 × mW + (1 if current), and
 -- the earliest port with the greatest such number is what DEM-2c says.
 use mathlib.Core.Path.{◌≡◌, refl, sym, ap, ◌∙◌}
 use mathlib.Core.Bool.{Bool, true, false, cond}

@@ -1,4 +1,4 @@
--- LEA-5: the default configuration: USB Type-C's 5 V at 3,000 mA and at 1,500 mA, 15,000 m_w, no minimum.
+-- LEA-5: the default configuration: USB Type-C's 5 V at 3,000 mA and at 1,500 mA, 15,000 mW, no minimum.
 use Rattle.std.specs.Prelude.{ℕ, ◌≤◌, true, cond, ◌&&◌, ◌≡◌, leb, eqb}
 use Rattle.power_policy_interface.specs.Capability.{capability_fits}
 use Rattle.power_policy_interface.specs.Limits.{largest}
@@ -54,7 +54,7 @@ config_from t uv ua lv la presence minimum =
     (minimum_from presence minimum))
     OptionConfig.None
 
--- the figures of a configuration within their types: 32 bits for m_w, 16 for mV and mA
+-- the figures of a configuration within their types: 32 bits for mW, 16 for mV and mA
 
 abbrev pub MinimumFits : OptionMilliwatts → Type 0
 MinimumFits OptionMilliwatts.None = Unit {0}

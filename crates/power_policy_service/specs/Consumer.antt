@@ -1,4 +1,4 @@
--- UPD-2: the choice of the consumer: the greatest pair (m_w, is
+-- UPD-2: the choice of the consumer: the greatest pair (mW, is
 -- current) by Rust's order of pairs, the earliest port among equals.
 use Rattle.std.specs.Prelude.{ℕ, zero, suc, Bool, true, false, cond, List, leb, eqb}
 use Rattle.power_policy_interface.specs.Order.{cmp_bool, then_with}
@@ -11,7 +11,7 @@ use Rattle.interface_display.specs.declared.OptionAvailableConsumer.{OptionAvail
 use Rattle.power_policy_service.specs.Rows.{psu_at}
 use Rattle.power_policy_service.specs.declared.config.OptionMilliwatts.{OptionMilliwatts}
 
--- (capability, is current): pairs in lexicographic order, capabilities by their m_w, false below true
+-- (capability, is current): pairs in lexicographic order, capabilities by their mW, false below true
 abbrev pub cmp_consumer : ConsumerPowerCapability → Bool → ConsumerPowerCapability → Bool → Ordering
 cmp_consumer a p b q = then_with (cmp_capability a.capability b.capability) (cmp_bool p q)
 
@@ -25,7 +25,7 @@ offered m (OptionConsumerPowerCapability.Some c) =
     cond (meets m c) (OptionConsumerPowerCapability.Some c) OptionConsumerPowerCapability.None
 
 -- UPD-1, UPD-3: a port is eligible if its record has a consumer
--- capability and no minimum is set or its m_w is at least the minimum
+-- capability and no minimum is set or its mW is at least the minimum
 abbrev pub eligible : OptionMilliwatts → State → OptionConsumerPowerCapability
 eligible m s = offered m s.consumer_capability
 

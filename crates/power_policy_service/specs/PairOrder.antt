@@ -22,7 +22,7 @@ pub record PairOrder : Type 0 where
       ((x ≡ Ordering.Less) ⊎ ((x ≡ Ordering.Equal) × (y ≡ Ordering.Less)))
       ((x ≡ Ordering.Equal) × (y ≡ Ordering.Equal))
       ((x ≡ Ordering.Greater) ⊎ ((x ≡ Ordering.Equal) × (y ≡ Ordering.Greater)))
-  -- the pairs (m_w, is current) of the choice
+  -- the pairs (mW, is current) of the choice
   pub consumers : (a : ConsumerPowerCapability) (p : Bool) (b : ConsumerPowerCapability) (q : Bool) → Exactly (cmp_consumer a p b q)
       ((mw a < mw b) ⊎ ((mw a ≡ mw b) × ((p ≡ false) × (q ≡ true))))
       ((mw a ≡ mw b) × (p ≡ q))

@@ -14,7 +14,7 @@ abbrev pub provided_mw : OptionProviderPowerCapability → ℕ
 provided_mw OptionProviderPowerCapability.None = 0
 provided_mw (OptionProviderPowerCapability.Some c) = max_power_mw c.capability
 
--- a port's connected provider contract in m_w
+-- a port's connected provider contract in mW
 abbrev pub connected_mw : State → ℕ
 connected_mw s = provided_mw (connected_provider_of s)
 
@@ -40,7 +40,7 @@ power_state_of c total = cond (ltb c.limited_power_threshold_mw total) PowerStat
 abbrev pub granted : PowerCapability → ProviderPowerCapability → ProviderPowerCapability
 granted p request = record { capability = p; flags = request.flags }
 
--- PRV-4, MIS-3: Limited, the limited capability, also above the request. PRV-5: Unlimited, the request if it has fewer m_w than the unlimited
+-- PRV-4, MIS-3: Limited, the limited capability, also above the request. PRV-5: Unlimited, the request if it has fewer mW than the unlimited
 -- capability, else that. PRV-6: with the request's flags
 abbrev pub grant_of : Config → PowerState → ProviderPowerCapability → ProviderPowerCapability
 grant_of c PowerState.Limited request = granted c.provider_limited request

@@ -20,12 +20,12 @@ pub record Advertised (c : PowerCapability) : Type 0 where
 pub record TypeC (c : Config) : Type 0 where
   pub unlimited : Advertised c.provider_unlimited
   pub limited : Advertised c.provider_limited
-  -- the threshold is the m_w of 5 V at 3 A
+  -- the threshold is the mW of 5 V at 3 A
   pub threshold : c.limited_power_threshold_mw ≡ max_power_mw (capability 5000 3000)
   -- Limited grants 5 V at 1,500 mA, whatever is requested
   pub limited_grant : (r : ProviderPowerCapability) → grant_of c PowerState.Limited r ≡ record { capability = capability 5000 1500; flags = r.flags }
   -- a request that can be advertised is granted what can be advertised
   pub kept : (s : PowerState) (r : ProviderPowerCapability) → Advertised r.capability → Advertised (grant_of c s r).capability
-  -- and another may be granted as it is: Unlimited, 9,000 mV at 1,000 mA, which are 9,000 m_w
+  -- and another may be granted as it is: Unlimited, 9,000 mV at 1,000 mA, which are 9,000 mW
   pub passed : (f : ProviderFlags) → grant_of c PowerState.Unlimited (record { capability = capability 9000 1000; flags = f }) ≡ record { capability = capability 9000 1000; flags = f }
   pub not_advertised : Advertised (capability 9000 1000) → ⊥

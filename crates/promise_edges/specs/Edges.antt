@@ -40,11 +40,11 @@ use Rattle.desk_report.specs.Line.{line_of, line_bytes, refused_bytes}
 use Rattle.desk_report.specs.Desk.{after_read, taken_by, line_for, follow}
 use Rattle.desk_report.specs.declared.line.Line.{Line}
 
-abbrev m_w : ℕ → ℕ → ℕ
-m_w v a = max_power_mw (record { voltage_mv = v; current_ma = a })
+abbrev mw_of : ℕ → ℕ → ℕ
+mw_of v a = max_power_mw (record { voltage_mv = v; current_ma = a })
 
 abbrev line : OptionNumber → shown.State → OptionNumber → OptionNumber → Line
-line n s p m = record { shown = n; state = s; port = p; mw = m }
+line n s p m = record { shown = n; state = s; port = p; mw_of = m }
 
 -- what the line after each packet says
 abbrev taking : Follower → List (List ℕ) → List Line
@@ -68,10 +68,10 @@ example_output =
     ++ (53 ∷ 32 ∷ 45 ∷ 32 ∷ 108 ∷ 111 ∷ 115 ∷ 116 ∷ 32 ∷ 45 ∷ 32 ∷ 45 ∷ 10 ∷ [])))))
 
 pub record Edges : Type 0 where
-  -- EDG-1 (P1): 5,000 mV, 3,000 mA is 15,000 m_w; 999 mV, 1 mA is 0; 65,535 twice is 4,294,836
-  pub P1-type_c : m_w 5000 3000 ≡ 15000
-  pub P1-rounded_down : m_w 999 1 ≡ 0
-  pub P1-most : m_w 65535 65535 ≡ 4294836
+  -- EDG-1 (P1): 5,000 mV, 3,000 mA is 15,000 mW; 999 mV, 1 mA is 0; 65,535 twice is 4,294,836
+  pub P1-type_c : mw_of 5000 3000 ≡ 15000
+  pub P1-rounded_down : mw_of 999 1 ≡ 0
+  pub P1-most : mw_of 65535 65535 ≡ 4294836
   -- EDG-2 (P2): no capability anywhere: none, whatever the minimum and the current consumer
   pub P2 : (minimum : OptionMilliwatts) (current : OptionAvailableConsumer) (psus : List State) (n : ℕ)
       → ((p : ℕ) → p < n → (psu_at psus p).consumer_capability ≡ OptionConsumerPowerCapability.None)
@@ -98,7 +98,7 @@ pub record Edges : Type 0 where
   pub P9 : (c : OptionConsumerPowerCapability) (r : OptionProviderPowerCapability)
       → update_requested_of (psu PsuState.Detached c r) r ≡ record { result = Result.Ok; state = psu PsuState.Detached c r }
   -- MIS-1: a port in ConnectedProvider is chosen as any other. (MIS-3, a Limited grant cut to the request, is excluded by P7, MIS-5, a later
-  -- port on equal m_w, by P4-none.)
+  -- port on equal mW, by P4-none.)
   pub chosen_while_providing :
       best_of OptionMilliwatts.None OptionAvailableConsumer.None
       (offering (offer 5000 1500) ∷ psu (PsuState.ConnectedProvider (contract 5000 1500)) (OptionConsumerPowerCapability.Some (offer 5000 3000)) OptionProviderPowerCapability.None ∷ [])
@@ -108,7 +108,7 @@ pub record Edges : Type 0 where
   pub P11-128 : leb128 128 ≡ 0x80 ∷ 0x01 ∷ []
   pub P11-300 : leb128 300 ≡ 0xAC ∷ 0x02 ∷ []
   pub P11-refused : (limit : ℕ) (rest : List ℕ) → read_number limit (0x80 ∷ 0x00 ∷ rest) ≡ ReadNumber.Refused 31
-  -- EDG-12 (P12): the five takes of the example: n, state, port and m_w after each; and the bytes that `follow` writes for its input
+  -- EDG-12 (P12): the five takes of the example: n, state, port and mW after each; and the bytes that `follow` writes for its input
   pub P12 : taking follower.fresh (picture0 ∷ event2 ∷ event1 ∷ event1 ∷ event3 ∷ [])
       ≡ line (OptionNumber.Some 0) shown.State.Level OptionNumber.None OptionNumber.None
       ∷ line (OptionNumber.Some 0) shown.State.Waiting OptionNumber.None OptionNumber.None
