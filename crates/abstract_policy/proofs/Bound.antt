@@ -1,9 +1,9 @@
 -- Every event closes after at most 3 + 4 × chargers orders: each loop asks at most one order (detach) or three (ready, init, attach) a
 -- charger, and beside them there are a disconnect, a connect and a wait.
-use mathlib.Core.Path.{◌≡◌, refl, sym, ap, ◌∙◌}
+use mathlib.Core.Path.{◌≡◌, refl}
 use mathlib.Core.Bool.{Bool, true, false, cond}
-use mathlib.Core.List.{List, [], ◌∷◌}
-use Prim.Native.Nat.{ℕ, zero, suc, ◌+◌, ◌*◌, ◌≤◌, ◌<◌, min}
+use mathlib.Core.List.{[], ◌∷◌}
+use Prim.Native.Nat.{ℕ, zero, suc, ◌+◌, ◌*◌, ◌≤◌, min}
 use native.Mathlib.Nat.{suc-mul}
 use native.Mathlib.Omega.{arith}
 use lib.ListN.{length}
@@ -41,6 +41,8 @@ pub record Costs (n : ℕ) (m : Action (Unit {0})) : Type 0 where
 
 more : (n m : ℕ) (i : Interaction) → n ≤ m → AtMost n i → AtMost m i
 more n m (done a h) le p = tt
+more zero m (ask o k) le p = elim p [ ]
+more (suc n) zero (ask o k) le p = elim le [ ]
 more (suc n) (suc m) (ask o k) le p = λ a r. more n m (k a r) (omega arith) (p a r)
 
 free : (j t : ℕ) (i : Interaction) → t ≡ 0 + j → AtMost j i → AtMost t i
@@ -263,6 +265,7 @@ event_bound g p e s r = (event_costs g p e).cost 0 (3 + 4 * g.chargers) (omega a
 -- so it never gives more
 pub orders_bound : (n : ℕ) (i : Interaction) (l : Answers) → AtMost n i → length (orders_by i l) ≤ n
 orders_bound n (done a h) l p = omega arith
+orders_bound zero (ask o k) l p = elim p [ ]
 orders_bound (suc n) (ask o k) [] p = omega arith
 orders_bound (suc n) (ask o k) (x ∷ l) p =
     go (no_answer o x.0) (orders_bound (suc n) (ask o k) l p) (orders_bound n (k (result_of x.0) x.1) l (p (result_of x.0) x.1))

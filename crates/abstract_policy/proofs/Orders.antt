@@ -2,11 +2,10 @@
 use mathlib.Core.Path.{◌≡◌, refl, subst}
 use mathlib.Core.Bool.{Bool, true, false, cond}
 use mathlib.Core.List.{List, [], ◌∷◌, ◌++◌}
-use Prim.Native.Nat.{ℕ, suc, ◌+◌}
+use Prim.Native.Nat.{ℕ, ◌+◌}
 use native.Mathlib.Omega.{arith}
 use lib.Dec.{eqb}
 use lib.ListN.{length, length-append}
-use Rattle.power_policy_interface.specs.declared.psu.Result.{Result}
 use Rattle.abstract_policy.specs.Given.{event_of, result_of}
 use Rattle.abstract_policy.specs.Action.{Interaction, done, ask}
 use Rattle.abstract_policy.specs.Interaction.{event}
