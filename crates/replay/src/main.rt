@@ -3,12 +3,11 @@
 // each operation is. It writes how many vectors there were and how many differ, and the first that does.
 #![tactic(auto)]
 
-ghost use Rattle.std.specs.Prelude.{◌≡◌, ◌<◌, length};
+ghost use Rattle.std.specs.Prelude.{◌≡◌, ◌<◌, ◌≤◌, length, IfOk};
 
 use interface_records::charger::ReadCharger;
 use interface_records::group::{Group, ReadConsumer, ReadProvider};
 use interface_records::psu::ReadPsu;
-use libc::STDOUT_FILENO;
 use power_policy_interface::capability::{
     ConsumerFlags, ConsumerPowerCapability, DisconnectFlags, DisconnectReason, OptionConsumerFlags,
     OptionConsumerPowerCapability, OptionDisconnectFlags, OptionDisconnectReason,
@@ -17,6 +16,7 @@ use power_policy_interface::capability::{
 };
 use power_policy_interface::charger::event::{OptionPsuState, PsuState};
 use power_policy_interface::{charger, psu};
+use std::io::{self, Read};
 
 // What a vector is compared with.
 #[derive(Clone, Copy)]
@@ -34,7 +34,7 @@ fn agrees(v: &[u8]) -> bool {
     let answer = ask(v[0], &v[1..19], &v[19..25]);
     let result = answer.result;
     let record = answer.record;
-    check::same(&v[25..31], &result) && check::same(&v[31..49], &record)
+    v[25..31] == result[..] && v[31..49] == record[..]
 }
 
 // The next vector, if there is one: a last one that is cut short counts as one that differs.
@@ -46,34 +46,49 @@ enum Vector {
     Differs,
 }
 
-fn next() -> Vector {
+// Reads until the buffer is full or the input has ended, and returns how many bytes were read.
+fn fill<R: Read>(input: &mut R, v: &mut [u8]) -> io::Result<usize>
+    ensures { IfOk result (λ n. n ≤ length v.new) }
+{
+    let mut done: usize = 0;
+    while done < v.len() {
+        let got = input.read(&mut v[done..])?;
+        if got == 0 {
+            break;
+        }
+        done += got;
+    }
+    Ok(done)
+}
+
+fn next<R: Read>(input: &mut R) -> io::Result<Vector> {
     let mut v = [0u8; 49];
-    let got = io::read_full(libc::STDIN_FILENO, &mut v);
+    let got = fill(input, &mut v)?;
     if got == 0 {
-        return Vector::End;
+        return Ok(Vector::End);
     }
     if got < 49 {
-        return Vector::Cut;
+        return Ok(Vector::Cut);
     }
     if agrees(&v) {
-        Vector::Agrees
+        Ok(Vector::Agrees)
     } else {
-        Vector::Differs
+        Ok(Vector::Differs)
     }
 }
 
-fn count_all() -> Count {
+fn count_all<R: Read>(input: &mut R) -> io::Result<Count> {
     let mut vectors: u64 = 0;
     let mut differ: u64 = 0;
     let mut first: u64 = 0;
     while vectors < 0xffff_ffff {
-        match next() {
+        match next(input)? {
             Vector::End => {
-                return Count {
+                return Ok(Count {
                     vectors,
                     differ,
                     first,
-                };
+                });
             }
             Vector::Agrees => {}
             Vector::Cut | Vector::Differs => {
@@ -85,11 +100,11 @@ fn count_all() -> Count {
         }
         vectors += 1;
     }
-    Count {
+    Ok(Count {
         vectors,
         differ,
         first,
-    }
+    })
 }
 
 // The answers of the port.
@@ -501,15 +516,14 @@ fn front(s: &[u8]) -> &[u8] {
     &s[..7]
 }
 
-fn main() {
-    let c = count_all();
-    io::print_decimal(STDOUT_FILENO, c.vectors);
-    io::write_all(STDOUT_FILENO, b" vectors, ");
-    io::print_decimal(STDOUT_FILENO, c.differ);
-    io::write_all(STDOUT_FILENO, b" differ\n");
-    if 0 < c.differ {
-        io::write_all(STDOUT_FILENO, b"first: ");
-        io::print_decimal(STDOUT_FILENO, c.first);
-        io::write_all(STDOUT_FILENO, b"\n");
+fn main(rt: HostRuntime) -> io::Result<()> {
+    let c = count_all(&mut rt.reader())?;
+    let vectors = c.vectors;
+    let differ = c.differ;
+    println!(rt; "{vectors} vectors, {differ} differ")?;
+    if 0 < differ {
+        let first = c.first;
+        println!(rt; "first: {first}")?;
     }
+    Ok(())
 }
