@@ -36,7 +36,7 @@ def by_hand(path):
 
 def snake(word):
     if word == "mW":
-        return "mw_of"
+        return "mw_at"
     if not word or not word[0].islower() or not re.search(r"[A-Z]", word):
         return word
     word = re.sub(r"([a-z0-9])([A-Z]+)(?=[A-Z][a-z])", lambda m: m.group(1) + "_" + m.group(2).lower() + "_", word)

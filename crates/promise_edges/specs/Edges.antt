@@ -40,11 +40,11 @@ use Rattle.desk_report.specs.Line.{line_of, line_bytes, refused_bytes}
 use Rattle.desk_report.specs.Desk.{after_read, taken_by, line_for, follow}
 use Rattle.desk_report.specs.declared.line.Line.{Line}
 
-abbrev mw_of : ℕ → ℕ → ℕ
-mw_of v a = max_power_mw (record { voltage_mv = v; current_ma = a })
+abbrev mw_at : ℕ → ℕ → ℕ
+mw_at v a = max_power_mw (record { voltage_mv = v; current_ma = a })
 
 abbrev line : OptionNumber → shown.State → OptionNumber → OptionNumber → Line
-line n s p m = record { shown = n; state = s; port = p; mw_of = m }
+line n s p m = record { shown = n; state = s; port = p; mw = m }
 
 -- what the line after each packet says
 abbrev taking : Follower → List (List ℕ) → List Line
@@ -69,9 +69,9 @@ example_output =
 
 pub record Edges : Type 0 where
   -- EDG-1 (P1): 5,000 mV, 3,000 mA is 15,000 mW; 999 mV, 1 mA is 0; 65,535 twice is 4,294,836
-  pub P1-type_c : mw_of 5000 3000 ≡ 15000
-  pub P1-rounded_down : mw_of 999 1 ≡ 0
-  pub P1-most : mw_of 65535 65535 ≡ 4294836
+  pub P1-type_c : mw_at 5000 3000 ≡ 15000
+  pub P1-rounded_down : mw_at 999 1 ≡ 0
+  pub P1-most : mw_at 65535 65535 ≡ 4294836
   -- EDG-2 (P2): no capability anywhere: none, whatever the minimum and the current consumer
   pub P2 : (minimum : OptionMilliwatts) (current : OptionAvailableConsumer) (psus : List State) (n : ℕ)
       → ((p : ℕ) → p < n → (psu_at psus p).consumer_capability ≡ OptionConsumerPowerCapability.None)
