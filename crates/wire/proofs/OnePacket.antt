@@ -19,7 +19,6 @@ use Rattle.interface_display.specs.Providers.{ones, len}
 use Rattle.interface_display.specs.declared.OptionAvailableConsumer.{OptionAvailableConsumer}
 use Rattle.interface_display.specs.declared.notices.Notices.{Notices}
 use Rattle.interface_display.specs.declared.packet.Packet.{Packet}
-use Rattle.interface_display.specs.declared.packet.Picture.{Picture}
 use Rattle.interface_display.specs.declared.providers.Providers.{Providers}
 use Rattle.wire.specs.Number.{leb128}
 use Rattle.wire.specs.Parser.{Parsed, refused, parsed, byte, end, field, number}

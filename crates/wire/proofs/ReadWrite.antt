@@ -21,7 +21,7 @@ use Rattle.interface_display.specs.declared.packet.EventPacket.{EventPacket}
 use Rattle.interface_display.specs.declared.packet.Packet.{Packet}
 use Rattle.interface_display.proofs.Four.{at_most_four, rebuilt, padded_rebuilt}
 use Rattle.wire.specs.Number.{leb128}
-use Rattle.wire.specs.Parser.{parsed, field, number}
+use Rattle.wire.specs.Parser.{parsed, field}
 use Rattle.wire.specs.Packet.{capability, contract, consumer, unconstrained, consumer_disconnected, consumer_connected, provider_disconnected, provider_connected, unconstrained_changed, notice_of, notice, notices, event_notices, event_after, event, packet_of, packet}
 use Rattle.wire.specs.Bytes.{capability_bytes, contract_bytes, unconstrained_bytes, notice_bytes, all_bytes, event_bytes}
 use Rattle.wire.specs.WellFormed.{contract_fits, notice_fits, notices_fit, event_fits}

@@ -18,7 +18,7 @@ use Rattle.interface_display.specs.declared.OptionAvailableConsumer.{OptionAvail
 use Rattle.interface_display.specs.declared.packet.Packet.{Packet}
 use Rattle.interface_display.specs.declared.packet.Picture.{Picture}
 use Rattle.interface_display.specs.declared.providers.Providers.{Providers}
-use Rattle.wire.specs.Parser.{parsed, then, field, number}
+use Rattle.wire.specs.Parser.{parsed, then, field}
 use Rattle.wire.specs.Packet.{ports, consumer_given, picture_after, picture, packet_of, packet}
 use Rattle.wire.specs.Bytes.{ports_from, ports_bytes, contract_bytes, consumer_bytes, picture_bytes, unconstrained_bytes}
 use Rattle.wire.specs.WellFormed.{consumer_fits, picture_fits}

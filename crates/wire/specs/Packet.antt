@@ -16,7 +16,6 @@ use Rattle.interface_display.specs.declared.AvailableConsumer.{AvailableConsumer
 use Rattle.interface_display.specs.declared.OptionAvailableConsumer.{OptionAvailableConsumer}
 use Rattle.interface_display.specs.declared.notices.Notices.{Notices}
 use Rattle.interface_display.specs.declared.packet.Packet.{Packet}
-use Rattle.interface_display.specs.declared.packet.Picture.{Picture}
 use Rattle.interface_display.specs.Providers.{max_connected_providers}
 use Rattle.interface_display.specs.declared.providers.Providers.{Providers}
 use Rattle.wire.specs.Parser.{Parser, ◌>>=◌, ◌>>◌, done, wrong, holds, byte, end, field, number}
