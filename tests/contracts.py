@@ -71,12 +71,12 @@ def equalities(text, system):
 
 
 def fixed(clauses, system):
-    """What the clauses fix: `r` for the result, `r .FIELD` for a field of it, `now (NAME .exit)` for what is lent."""
+    """What the clauses fix: `result`, `result.FIELD` for a field of it, `NAME.new` for what is lent."""
     found = set()
-    for name, said in re.findall(r"ensures \{ λ (\w+)\. ⌜ (.*) ⌝ \}$", clauses, re.M):
+    for said in re.findall(r"ensures (?:\w+ )?\{ (.*) \}$", clauses, re.M):
         for left, right in equalities(said, system):
-            if not re.search(r"(?<![\w«])%s(?![\w»])|\.exit\b" % name, right):
-                found.add(re.sub(r"^%s(?=$| \.)" % name, "r", left).replace("«", "").replace("»", ""))
+            if not re.search(r"(?<![\w«.])result(?![\w»])|\.new\b", right):
+                found.add(left.replace("«", "").replace("»", ""))
     return found
 
 
@@ -87,12 +87,12 @@ def faults(arguments, result, clauses, fields, system=False):
         yield "has a requires"
     if "ensures" not in clauses:
         yield "has no ensures"
-    if result and "r" not in found:
+    if result and "result" not in found:
         of = fields.get(result.strip())
-        if not of or any("r .%s" % field not in found for field in of):
+        if not of or any("result.%s" % field not in found for field in of):
             yield "does not say what the result equals"
     for name in re.findall(r"(\w+): &(?:'\w+ )?mut ", arguments):
-        if "now (%s .exit)" % name not in found:
+        if "%s.new" % name not in found:
             yield "does not say what %s is at exit" % name
 
 
@@ -100,39 +100,39 @@ STRUCT = "pub struct Two {\n    pub low: u8,\n    pub high: u8,\n}\n\n"
 
 # A small function's head, and what of it is left open; nothing of the first ones.
 PLANTED = [
-    ("pub fn f(n: u8) -> u8\n    ensures { λ r. ⌜ r ≡ twice n ⌝ }\n", ""),
-    ("pub fn f(n: u8) -> Two\n    ensures { λ r. ⌜ (r .low ≡ n) × (r .high ≡ twice n) ⌝ }\n", ""),
-    ("pub fn f(n: u8) -> Two\n    ensures { λ r. ⌜ r .low ≡ n ⌝ }\n    ensures { λ r. ⌜ r .high ≡ n ⌝ }\n", ""),
-    ("pub fn f(n: u8) -> u8\n    ensures { λ r. ⌜ (r ≡ twice n) × (n < 4 → r < 8) ⌝ }\n", ""),
-    ("pub fn f(n: u8) -> u8\n    ensures { λ r. ⌜ r ≡ once (λ (g : ℕ → ℕ). g n) ⌝ }\n", ""),
-    ("pub fn f(out: &mut [u8], n: u8)\n    ensures { λ _. ⌜ now (out .exit) ≡ sets (now (out .entry)) 0 n ⌝ }\n", ""),
+    ("pub fn f(n: u8) -> u8\n    ensures { result ≡ twice n }\n", ""),
+    ("pub fn f(n: u8) -> Two\n    ensures { (result.low ≡ n) × (result.high ≡ twice n) }\n", ""),
+    ("pub fn f(n: u8) -> Two\n    ensures low { result.low ≡ n }\n    ensures high { result.high ≡ n }\n", ""),
+    ("pub fn f(n: u8) -> u8\n    ensures { (result ≡ twice n) × (n < 4 → result < 8) }\n", ""),
+    ("pub fn f(n: u8) -> u8\n    ensures { result ≡ once (λ (g : ℕ → ℕ). g n) }\n", ""),
+    ("pub fn f(out: &mut [u8], n: u8)\n    ensures { out.new ≡ sets out.old 0 n }\n", ""),
     ("pub fn f(n: u8) -> u8\n", "has no ensures"),
-    ("pub fn f(n: u8) -> u8\n    requires { ⌜ n < 4 ⌝ }\n    ensures { λ r. ⌜ r ≡ twice n ⌝ }\n", "has a requires"),
-    ("pub fn f(n: u8) -> u8\n    ensures { λ r. ⌜ r < 8 ⌝ }\n", "the result"),
-    ("pub fn f(n: u8) -> u8\n    ensures { λ r. ⌜ n < 4 → r ≡ twice n ⌝ }\n", "the result"),
-    ("pub fn f(n: u8) -> u8\n    ensures { λ r. ⌜ (n < 4 → r ≡ twice n) ⌝ }\n", "the result"),
-    ("pub fn f(n: u8) -> u8\n    ensures { λ r. ⌜ (r < 8) × (n < 4 → r ≡ twice n) ⌝ }\n", "the result"),
-    ("pub fn f(n: u8) -> u8\n    ensures { λ r. ⌜ n < 4 → (r ≡ twice n) × (r < 8) ⌝ }\n", "the result"),
-    ("pub fn f(n: u8) -> u8\n    ensures { λ r. ⌜ (h : n < 4) → r ≡ twice n ⌝ }\n", "the result"),
-    ("pub fn f(n: u8) -> u8\n    ensures { λ r. ⌜ r ≡ twice n → n < 4 ⌝ }\n", "the result"),
-    ("pub fn f(n: u8) -> u8\n    ensures { λ r. ⌜ (r ≡ twice n) ⊎ (r ≡ 0) ⌝ }\n", "the result"),
-    ("pub fn f(n: u8) -> u8\n    ensures { λ r. ⌜ (m : ℕ) × (r ≡ twice m) ⌝ }\n", "the result"),
-    ("pub fn f(n: u8) -> u8\n    ensures { λ r. ⌜ r ≡ r ⌝ }\n", "the result"),
-    ("pub fn f(n: u8) -> u8\n    ensures { λ r. ⌜ half r ≡ n ⌝ }\n", "the result"),
-    ("pub fn f(n: u8) -> Two\n    ensures { λ r. ⌜ r .low ≡ n ⌝ }\n", "the result"),
-    ("pub fn f(n: u8) -> Two\n    ensures { λ r. ⌜ (r .low ≡ n) × (n < 4 → r .high ≡ n) ⌝ }\n", "the result"),
-    ("pub fn f(out: &mut [u8], n: u8) -> u8\n    ensures { λ r. ⌜ r ≡ twice n ⌝ }\n", "out is at exit"),
-    ("pub fn f(out: &mut [u8], n: u8)\n    ensures { λ _. ⌜ (n < 4 → now (out .exit) ≡ twice n) ⌝ }\n", "out is at exit"),
-    ("pub fn f(out: &mut [u8], n: u8)\n    ensures { λ _. ⌜ now (out .exit) ≡ now (out .exit) ⌝ }\n", "out is at exit"),
-    ("pub fn f(a: &mut [u8], b: &mut [u8])\n    ensures { λ _. ⌜ now (a .exit) ≡ now (b .entry) ⌝ }\n", "b is at exit"),
+    ("pub fn f(n: u8) -> u8\n    requires { n < 4 }\n    ensures { result ≡ twice n }\n", "has a requires"),
+    ("pub fn f(n: u8) -> u8\n    ensures { result < 8 }\n", "the result"),
+    ("pub fn f(n: u8) -> u8\n    ensures { n < 4 → result ≡ twice n }\n", "the result"),
+    ("pub fn f(n: u8) -> u8\n    ensures { (n < 4 → result ≡ twice n) }\n", "the result"),
+    ("pub fn f(n: u8) -> u8\n    ensures { (result < 8) × (n < 4 → result ≡ twice n) }\n", "the result"),
+    ("pub fn f(n: u8) -> u8\n    ensures { n < 4 → (result ≡ twice n) × (result < 8) }\n", "the result"),
+    ("pub fn f(n: u8) -> u8\n    ensures { (h : n < 4) → result ≡ twice n }\n", "the result"),
+    ("pub fn f(n: u8) -> u8\n    ensures { result ≡ twice n → n < 4 }\n", "the result"),
+    ("pub fn f(n: u8) -> u8\n    ensures { (result ≡ twice n) ⊎ (result ≡ 0) }\n", "the result"),
+    ("pub fn f(n: u8) -> u8\n    ensures { (m : ℕ) × (result ≡ twice m) }\n", "the result"),
+    ("pub fn f(n: u8) -> u8\n    ensures { result ≡ result }\n", "the result"),
+    ("pub fn f(n: u8) -> u8\n    ensures { half result ≡ n }\n", "the result"),
+    ("pub fn f(n: u8) -> Two\n    ensures { result.low ≡ n }\n", "the result"),
+    ("pub fn f(n: u8) -> Two\n    ensures { (result.low ≡ n) × (n < 4 → result.high ≡ n) }\n", "the result"),
+    ("pub fn f(out: &mut [u8], n: u8) -> u8\n    ensures { result ≡ twice n }\n", "out is at exit"),
+    ("pub fn f(out: &mut [u8], n: u8)\n    ensures { (n < 4 → out.new ≡ twice n) }\n", "out is at exit"),
+    ("pub fn f(out: &mut [u8], n: u8)\n    ensures { out.new ≡ out.new }\n", "out is at exit"),
+    ("pub fn f(a: &mut [u8], b: &mut [u8])\n    ensures { a.new ≡ b.old }\n", "b is at exit"),
 ]
 
 
 # The same of a crate that calls the system.
 PLANTED_SYSTEM = [
-    ("pub fn f(n: u8) -> u8\n    ensures { λ r. ⌜ ((w : Seen) × (r ≡ after n w)) ⌝ }\n", ""),
-    ("pub fn f(n: u8) -> u8\n    ensures { λ r. ⌜ ((w : Seen) × (n < 4 → r ≡ after n w)) ⌝ }\n", "the result"),
-    ("pub fn f(n: u8) -> u8\n    ensures { λ r. ⌜ ((w : Seen) × (w .bytes ≡ n)) ⌝ }\n", "the result"),
+    ("pub fn f(n: u8) -> u8\n    ensures { ((w : Seen) × (result ≡ after n w)) }\n", ""),
+    ("pub fn f(n: u8) -> u8\n    ensures { ((w : Seen) × (n < 4 → result ≡ after n w)) }\n", "the result"),
+    ("pub fn f(n: u8) -> u8\n    ensures { ((w : Seen) × (w.bytes ≡ n)) }\n", "the result"),
 ]
 
 
@@ -169,7 +169,7 @@ def main():
             system = os.path.relpath(path, os.path.join(ROOT, "crates")).split(os.sep)[0] in calling
             for function, arguments, result, clauses in contracts(text):
                 found = list(faults(arguments, result, clauses, structs(text), system))
-                under = clauses.replace("⌜ ", "⌜ 0 < 1 → ")
+                under = re.sub(r"(ensures (?:\w+ )?\{ )", r"\g<1>0 < 1 → ", clauses)
                 if (result or "&mut " in arguments) and not list(faults(arguments, result, under, structs(text), system)):
                     found.append("is accepted with a hypothesis before every clause")
                 for fault in found:

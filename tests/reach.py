@@ -12,7 +12,8 @@ import sys
 ROOT = os.path.dirname(os.path.dirname(os.path.abspath(__file__)))
 # Rooms that hold how the machine does it: states, phases, steps, images, the calls on them, the ring of the follower, and the proofs about these.
 MACHINE = re.compile(r"(machine|desk|bytes|abi|promise)_|power_policy$")
-USE = re.compile(r"^use Rattle·(\w+)(?:·specs)?\.specs\.([\w.]+?)(?:\.\{([^}]*)\}| as (\w+))?$")
+USE = re.compile(r"^use Rattle\.(\w+)\.specs\.([\w.]+?)(?:\.\{([^}]*)\}| as (\w+))?$")
+CRATES = set(os.listdir(os.path.join(ROOT, "crates")))
 HEAD = re.compile(r"^(?:abbrev |unfoldable )?(?:pub )?(?:record |data )?(?:infix.* )?([^\s:()]+)\s.*(?::|where)")
 WORD = re.compile(r"[^\s(){}\[\];,.:«»]+")
 
@@ -41,7 +42,7 @@ class Module:
         above, block, inside = [], None, None
         for line in lines:
             use = USE.match(line)
-            if use:
+            if use and use.group(1) in CRATES:
                 crate, name, names, alias = use.groups()
                 place = source(crate, name)
                 if alias:
@@ -95,7 +96,7 @@ def reached(start, name):
             text = re.sub(r"(^|\s)-- .*", "", line)
             for alias, place in module.whole.items():
                 todo += [(place, word) for word in re.findall(r"\b%s\.([^\s(){}\[\];,.:]+)" % re.escape(alias), text)]
-            words = set(WORD.findall(text)) | {w for w in module.names if "_" in w and all(part in text for part in w.split("_") if part)}
+            words = set(WORD.findall(text)) | {w for w in module.names if "◌" in w and all(part in text for part in w.split("◌") if part)}
             for word in words:
                 if word in module.names:
                     todo.append(module.names[word])
