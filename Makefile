@@ -24,7 +24,7 @@ all: $(archive)
 
 target/staticlib/libpower_policy.a:
 	@command -v rt >/dev/null || { echo "rt is not here: $@ is proved and written by the Rattle toolchain" >&2; exit 1; }
-	rt staticlib power_policy
+	sh tests/built.sh power_policy
 
 install: $(archive)
 	install -d "$(root)/include" "$(root)/lib/pkgconfig" "$(cmake)" "$(doc)"

@@ -25,7 +25,7 @@ def rooms():
             found.append((head.group(1), []))
         elif ":" in line and not line.startswith("#"):
             name, names = line.split(":")
-            found[-1][1].append((name.strip(), [one for one in names.split() if one not in KIT]))
+            found[-1][1].append((name.split()[0], [one for one in names.split() if one not in KIT]))
     return found
 
 
@@ -51,7 +51,7 @@ def edits(found):
         crate = short.split(os.sep)[1 if short.startswith("crates") else 2]
         with open(path, encoding="utf-8") as f:
             new = "".join(line for line in f if line.startswith("new:"))
-        named = set(re.findall(r"(?<![\w:.])([a-z_]+)::", new)) | set(re.findall(r"Rattle·([a-z_]+)\.", new))
+        named = set(re.findall(r"(?<![\w:.])([a-z_]+)::", new)) | set(re.findall(r"Rattle\.([a-z_]+)\.", new))
         yield ["%s names %s, which %s does not list" % (short, one, crate) for one in sorted(named & set(listed) - listed[crate])]
 
 

@@ -38,7 +38,7 @@ fn folder() -> Result<PathBuf, String> {
         return Ok(folder);
     }
     Err(format!(
-        "{} is not there: write it with `rt staticlib power_policy`, or set POWER_POLICY_LIB to the folder that has it",
+        "{} is not there: write it with `sh tests/built.sh power_policy`, or set POWER_POLICY_LIB to the folder that has it",
         archive.display()
     ))
 }
