@@ -9,7 +9,6 @@ use Rattle.power_policy_interface.specs.declared.service.event.Event as notice
 use Rattle.interface_display.specs.Display.{fresh}
 use Rattle.interface_display.specs.Notices.{empty, pushed}
 use Rattle.interface_display.specs.declared.packet.Packet.{Packet}
-use Rattle.interface_display.specs.declared.packet.Picture.{Picture}
 use Rattle.interface_display.specs.declared.State.{State}
 use Rattle.desk_follower.specs.Follower as follower
 use Rattle.desk_follower.specs.Held.{none_held, greatest, above}
