@@ -1,13 +1,2 @@
-pub mod AtPlace
-pub mod ByValue
-pub mod Data
-pub mod Figures
-pub mod InPlace
-pub mod InPlaceAlone
-pub mod Looked
 pub mod Past
-pub mod Replaced
 pub mod Same
-pub mod Summed
-pub mod Types
-pub mod Word
