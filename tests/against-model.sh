@@ -1,7 +1,7 @@
 #!/bin/bash
 # usage: against-model.sh
 #
-# Compares `follow` with the plain model in rust/model, which was written from the requirements alone. Needs the program `follow` that `rt ci` leaves in
+# Compares `follow` with the plain model in rust/model, which was written from the requirements alone. Needs the program `follow` that tests/built.sh puts in
 # target/bin, and cargo. Each set of packets is made by the model's generators and handed to both. (The follower's whole state after each packet is compared
 # through the C functions, by `boundary model`.)
 # Writes a line for each set, then how many packets were compared and, last, 'N passed, M failed'.

@@ -2,7 +2,7 @@
 # usage: against-rust.sh
 #
 # Compares the port with the original Rust, where its sources stand beside the repository (../shared/docs/src, or
-# POWER_POLICY_RUST). Needs the programs that `rt ci` leaves in target/bin. Where the sources are not there it says so: the
+# POWER_POLICY_RUST). Needs the programs that tests/built.sh puts in target/bin. Where the sources are not there it says so: the
 # stored answers have then been replayed by `rt ci` all the same.
 # Its last line is 'N passed, M failed'.
 set -u

@@ -4,7 +4,7 @@
 # Runs the demonstration and compares what it prints with examples/demo.txt, and the packets that its link handed over with examples/day.packets. Runs it
 # over the links of 200 other seeds: it ends with 1 if the desk shows a number with other content than the console held at it. Hands the packets to the
 # program `follow`: it shows what the desk of the demonstration shows. The archive is in target/staticlib or where POWER_POLICY_LIB says. Needs cargo, and
-# target/bin/follow (rt check follow).
+# target/bin/follow (sh tests/built.sh follow).
 # Its last line is 'N passed, M failed'.
 set -u
 cd "$(dirname "$0")/.." || exit 2

@@ -3,13 +3,13 @@
 #
 # What the program `follow` does with its input and output, which no contract speaks of: nothing on standard error where all goes well, a message where standard
 # output takes no more or standard input cannot be read or there are arguments, the same lines however the input comes in, and each line before the next
-# packet is waited for. Needs target/bin/follow (rt check follow).
+# packet is waited for. Needs target/bin/follow (sh tests/built.sh follow).
 # Writes a line for each test that fails and, last, 'N passed, M failed'.
 set -u
 cd "$(dirname "$0")/.." || exit 2
 follow=target/bin/follow
 if [ ! -x "$follow" ]; then
-    echo "$follow is not there: rt check follow"
+    echo "$follow is not there: sh tests/built.sh follow"
     echo "0 passed, 1 failed"
     exit 1
 fi

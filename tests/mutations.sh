@@ -2,7 +2,7 @@
 # usage: mutations.sh
 #
 # Tries the comparison with the Rust itself: breaks a copy of the Rust, one place at a time, and asks that the replay finds it. Not a
-# part of the gate: it builds the Rust once for each change. Needs target/bin/replay_service (rt check replay_service), cargo and the
+# part of the gate: it builds the Rust once for each change. Needs target/bin/replay_service (sh tests/built.sh replay_service), cargo and the
 # original sources (../shared/docs/src, or POWER_POLICY_RUST).
 # Writes a line for each change and, last, 'N passed, M failed'.
 set -u

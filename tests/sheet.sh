@@ -5,7 +5,7 @@
 # stream is also handed to the plain model in rust/model, which was written from the requirements alone, and both outputs are compared: the example cut at and
 # changed in every byte, a recorded stream, lengths that are ill-formed, random streams with damaged packets. Then what no contract speaks of: a standard
 # error or output that takes no more, a standard input that cannot be read or comes in pieces, arguments. Its exit status is always 0.
-# Needs target/bin/sheet (rt check sheet) and cargo. Writes a line for each test that fails, how many streams of each kind were compared and, last,
+# Needs target/bin/sheet (sh tests/built.sh sheet) and cargo. Writes a line for each test that fails, how many streams of each kind were compared and, last,
 # 'N passed, M failed'.
 set -u
 cd "$(dirname "$0")/.." || exit 2
@@ -13,7 +13,7 @@ cd "$(dirname "$0")/.." || exit 2
 sheet=target/bin/sheet
 model=target/rust/release/model
 if [ ! -x "$sheet" ]; then
-    fail "$sheet is not there: rt check sheet"
+    fail "$sheet is not there: sh tests/built.sh sheet"
     finish
 fi
 if ! needs cargo "sheet against the model" || ! (cd rust && cargo build --offline --locked --release --quiet -p link-model) >"$work/log" 2>&1; then
