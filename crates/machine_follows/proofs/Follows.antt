@@ -1,11 +1,10 @@
 -- The machine follows the event: opened, it stands for the event, and after each answer for the rest of it. The cases are those of
 -- the phases; what each step stands for is in Steps.antt.
-use mathlib.Core.Path.{◌≡◌, refl, sym, ap, ◌∙◌}
+use mathlib.Core.Path.{◌≡◌, refl, ◌∙◌}
 use mathlib.Core.Bool.{Bool, true, false, cond}
-use mathlib.Core.List.{List, [], ◌∷◌, ◌++◌}
-use Prim.Native.Nat.{ℕ, zero, suc, ◌+◌, ◌-◌, ◌<◌, ◌≤◌, min}
+use mathlib.Core.List.{[]}
+use Prim.Native.Nat.{ℕ, suc, ◌-◌, ◌<◌, ◌≤◌, min}
 use native.Mathlib.Omega.{arith}
-use lib.Dec.{ltb}
 use borrow.Author.Tests.{lt-ltb}
 use Rattle.power_policy_interface.specs.Psu.{can_connect_provider_of}
 use Rattle.power_policy_interface.specs.declared.capability.DisconnectFlags.{DisconnectFlags}
@@ -20,22 +19,22 @@ use Rattle.interface_display.specs.declared.providers.Removed.{Removed}
 use Rattle.power_policy_service.specs.Provider.{total_of, total_with, power_state_of, grant_of}
 use Rattle.power_policy_service.specs.declared.provider.PowerState.{PowerState}
 use Rattle.abstract_policy.specs.State.{psu_of, with_power_state, with_providers}
-use Rattle.abstract_policy.specs.Action.{Held, Interaction, done, ask, Action, ◌>>=◌, ◌>>◌, skip, records, set, notify, ok, charger_ok, charger, psu, when, each}
+use Rattle.abstract_policy.specs.Action.{Held, Interaction, ◌>>=◌, ◌>>◌, records, set, notify, ok, psu, when}
 use Rattle.abstract_policy.specs.Interaction.{post_consumer_connected, update_current_consumer, post_provider_connected, provide, connect_provider, remove_provider, post_provider_removed, process_psu_event, close, event}
 use Rattle.abstract_policy.specs.declared.state.InternalState.{InternalState}
 use Rattle.abstract_policy.specs.declared.state.Records.{Records}
 use Rattle.abstract_policy.specs.declared.state.Registration.{Registration}
 use Rattle.abstract_policy.specs.declared.order.Order.{Order}
 use Rattle.machine_state.specs.Memory.{tell_provider, no_notices}
-use Rattle.machine_state.specs.Phase.{order_of, outcome_of, switch_order, connect_order}
+use Rattle.machine_state.specs.Phase.{switch_order, connect_order}
 use Rattle.machine_state.specs.declared.memory.Memory.{Memory}
 use Rattle.machine_state.specs.declared.memory.ProviderNotice.{ProviderNotice}
 use Rattle.machine_state.specs.declared.phase.Leaver.{Leaver}
 use Rattle.machine_state.specs.declared.phase.Phase.{Phase}
 use Rattle.machine_state.specs.declared.phase.Stage.{Stage}
-use Rattle.machine_update.specs.Update.{at, closed, remember}
-use Rattle.machine_process.specs.Process.{provide_if, request_of, provide_for, connect_provider_of, post_provider_of, after_removal, remove_provider_of, depart_of, process_of, following, after_stage, after_order, answered_to, answered_of}
-use Rattle.machine_follows.specs.Machine.{held_of, listed, rest, rest_of_stage, stands_at, stands_for, NotConnected, NotUpdated, Fits, StageFits, LeaverFits}
+use Rattle.machine_update.specs.Update.{remember}
+use Rattle.machine_process.specs.Process.{provide_if, provide_for, after_removal, remove_provider_of, depart_of, process_of, following, answered_of}
+use Rattle.machine_follows.specs.Machine.{held_of, rest, stands_for, NotConnected, NotUpdated, StageFits, LeaverFits}
 use Rattle.machine_follows.proofs.Steps.{update_follows, switch_from, leave_from, charge_from}
 
 pub nothing_told_lem : NotUpdated no_notices

@@ -1,8 +1,8 @@
 -- What an open event has not told yet stays untold until its step, and its charger is a registered one: the next charger is below the
 -- count wherever one is asked.
-use mathlib.Core.Path.{◌≡◌, refl, sym, ap, ◌∙◌}
+use mathlib.Core.Path.{◌≡◌, refl}
 use mathlib.Core.Bool.{Bool, true, false, cond}
-use Prim.Native.Nat.{ℕ, zero, suc, ◌+◌, ◌-◌, ◌<◌, ◌≤◌, min}
+use Prim.Native.Nat.{ℕ, ◌-◌, ◌<◌}
 use lib.Dec.{ltb}
 use borrow.Author.Tests.{ltb-true}
 use Rattle.power_policy_interface.specs.Psu.{can_connect_consumer_of, can_connect_provider_of}
@@ -19,18 +19,15 @@ use Rattle.abstract_policy.specs.Interaction.{is_connected_consumer, same_availa
 use Rattle.abstract_policy.specs.declared.state.InternalState.{InternalState}
 use Rattle.abstract_policy.specs.declared.state.Records.{Records}
 use Rattle.abstract_policy.specs.declared.state.Registration.{Registration}
-use Rattle.abstract_policy.specs.declared.order.Order.{Order}
 use Rattle.machine_state.specs.Memory.{no_notices, next_powered}
-use Rattle.machine_state.specs.Phase.{outcome_of}
 use Rattle.machine_state.specs.declared.memory.Memory.{Memory}
-use Rattle.machine_state.specs.declared.memory.Notices.{Notices}
 use Rattle.machine_state.specs.declared.phase.Leaver.{Leaver}
 use Rattle.machine_state.specs.declared.phase.Phase.{Phase}
 use Rattle.machine_state.specs.declared.phase.Stage.{Stage}
 use Rattle.machine_state.specs.declared.phase.Turn.{Turn}
-use Rattle.machine_update.specs.Update.{at, closed, remember, finish_update_of, connect_if, connect_psu_of, told_switch, switch_of, cleared, disconnect_of, connect_from, left_of, leave_of, charge_stage, told_connected, charge_of, update_none, update_to, update_of}
-use Rattle.machine_process.specs.Process.{provide_if, provide_for, remove_provider_of, process_of, following, next_from, after_stage, after_order, answered_to, answered_of}
-use Rattle.machine_follows.specs.Machine.{NotConnected, NotUpdated, Fits, StageFits, LeaverFits}
+use Rattle.machine_update.specs.Update.{at, remember, finish_update_of, connect_if, connect_psu_of, told_switch, switch_of, cleared, disconnect_of, connect_from, left_of, leave_of, charge_stage, told_connected, charge_of, update_none, update_to, update_of}
+use Rattle.machine_process.specs.Process.{provide_if, provide_for, remove_provider_of, process_of, following, next_from, after_stage, after_order, answered_to}
+use Rattle.machine_follows.specs.Machine.{NotConnected, NotUpdated, Fits, StageFits}
 use Rattle.machine_follows.proofs.Follows.{nothing_told_lem, removed_tells}
 
 abbrev pub FitsTurn : Registration → Turn → Type 0

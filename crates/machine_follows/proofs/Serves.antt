@@ -1,20 +1,19 @@
 -- The service follows the event for every list of answers, refused ones included: a refused answer changes nothing on either side, an
 -- accepted one leads both to the rest (Follows.antt), and the bound on the orders keeps the count from its limit.
 use mathlib.Core.Path.{◌≡◌, refl, sym, ap, ◌∙◌, subst}
-use mathlib.Core.Bool.{Bool, true, false, cond, not, ◌&&◌, ◌||◌}
+use mathlib.Core.Bool.{Bool, true, false, cond, not, ◌&&◌}
 use mathlib.Core.List.{List, [], ◌∷◌}
-use mathlib.Core.Logic.{◌⊎◌, inl, inr, ⊎_elim}
 use Prim.Native.Nat.{ℕ, zero, suc, ◌+◌, ◌*◌, ◌<◌, ◌≤◌}
 use native.Mathlib.Omega.{arith}
-use lib.Dec.{ltb, eqb}
+use lib.Dec.{eqb}
 use lib.ListN.{length}
-use borrow.Author.Tests.{lt-ltb, ltb-true, ltb-false, eqb-true, eqb-false}
+use borrow.Author.Tests.{lt-ltb, eqb-false}
 use Rattle.power_policy_interface.specs.declared.psu.Result.{Result}
 use Rattle.power_policy_interface.specs.declared.service.event.Event.{Event}
-use Rattle.abstract_policy.specs.Refusals.{not_registered, unknown_event, numbers_used, first_refused, unknown_answer, no_answer}
+use Rattle.abstract_policy.specs.Refusals.{not_registered, unknown_event, numbers_used, unknown_answer, no_answer}
 use Rattle.abstract_policy.specs.Given.{result_of, event_of}
 use Rattle.abstract_policy.specs.Action.{Held, Interaction, done, ask}
-use Rattle.abstract_policy.specs.Interaction.{close, event}
+use Rattle.abstract_policy.specs.Interaction.{close}
 use Rattle.abstract_policy.specs.Fed.{Answers, fed_by, orders_by}
 use Rattle.abstract_policy.specs.Ends.{AtMost}
 use Rattle.abstract_policy.specs.Returns.{brings}
@@ -22,7 +21,6 @@ use Rattle.abstract_policy.specs.declared.state.Records.{Records}
 use Rattle.abstract_policy.specs.declared.state.Registration.{Registration}
 use Rattle.abstract_policy.specs.declared.order.OptionOrder.{OptionOrder}
 use Rattle.abstract_policy.specs.declared.order.Order.{Order}
-use Rattle.abstract_policy.specs.declared.outcome.Step.{Step}
 use Rattle.abstract_policy.proofs.Bound.{event_bound, orders_bound}
 use Rattle.machine_state.specs.Memory.{no_notices}
 use Rattle.machine_state.specs.Phase.{order_of, outcome_of, switch_order, connect_order}
@@ -30,9 +28,9 @@ use Rattle.machine_state.specs.declared.memory.Memory.{Memory}
 use Rattle.machine_state.specs.declared.phase.Phase.{Phase}
 use Rattle.machine_state.specs.declared.phase.Turn.{Turn}
 use Rattle.machine_update.specs.Update.{remember}
-use Rattle.machine_process.specs.Process.{answered_of, answered_to, process_of}
-use Rattle.machine_service.specs.Refusals.{is_open, open_refusals, answer_refusals}
-use Rattle.machine_service.specs.Service.{refused, service_with, increment, moved, moved_by, answered_by, answer_of, opened_of, open_of}
+use Rattle.machine_process.specs.Process.{answered_of, process_of}
+use Rattle.machine_service.specs.Refusals.{is_open}
+use Rattle.machine_service.specs.Service.{refused, increment, moved, answer_of, opened_of, open_of}
 use Rattle.machine_service.specs.declared.Service.{Service}
 use Rattle.machine_service.specs.declared.Stepped.{Stepped}
 use Rattle.machine_follows.specs.Machine.{held_of, rest, stands_at, stands_for, Fits}
@@ -155,6 +153,7 @@ answers_follow (x ∷ l) g number before n (Phase.Closed a) m le nb fits most su
     carry (service_at g number before (Phase.Closed a) m) _ g number before (done a (held_of m)) (done a (held_of m)) l
     (closed_answer g (suc number) (before + 0) a m x.0 x.1) refl
     (answers_follow l g number before n (Phase.Closed a) m le nb fits most sum)
+answers_follow (x ∷ l) g number before zero (Phase.Leaving i p f) m le nb fits most sum = elim most [ ]
 answers_follow (x ∷ l) g number before (suc n) (Phase.Leaving i p f) m le nb fits most sum =
     let t = answered_of g (Phase.Leaving i p f) (Order.Detach i) m (result_of x.0) x.1 in
     let e = leaving_answered g i p f m le fits (result_of x.0) x.1 in
@@ -164,6 +163,7 @@ answers_follow (x ∷ l) g number before (suc n) (Phase.Leaving i p f) m le nb f
     (answered_fits g (Phase.Leaving i p f) m (outcome_of (Order.Detach i) (result_of x.0)) x.1 fits)
     (one_less g n t (rest g (Phase.Leaving i p f) (result_of x.0) (held_of m) x.1 close) e (most (result_of x.0) x.1))
     (omega arith))
+answers_follow (x ∷ l) g number before zero (Phase.Switching q old f new) m le nb fits most sum = elim most [ ]
 answers_follow (x ∷ l) g number before (suc n) (Phase.Switching q old f new) m le nb fits most sum =
     let t = answered_of g (Phase.Switching q old f new) (switch_order q old) m (result_of x.0) x.1 in
     let e = switching_answered g q old f new m le fits (result_of x.0) x.1 in
@@ -173,6 +173,7 @@ answers_follow (x ∷ l) g number before (suc n) (Phase.Switching q old f new) m
     (answered_fits g (Phase.Switching q old f new) m (outcome_of (switch_order q old) (result_of x.0)) x.1 fits)
     (one_less g n t (rest g (Phase.Switching q old f new) (result_of x.0) (held_of m) x.1 close) e (most (result_of x.0) x.1))
     (omega arith))
+answers_follow (x ∷ l) g number before zero (Phase.Connecting s new) m le nb fits most sum = elim most [ ]
 answers_follow (x ∷ l) g number before (suc n) (Phase.Connecting s new) m le nb fits most sum =
     let t = answered_of g (Phase.Connecting s new) (connect_order s new) m (result_of x.0) x.1 in
     let e = connecting_answered g s new m le fits (result_of x.0) x.1 in
@@ -182,6 +183,7 @@ answers_follow (x ∷ l) g number before (suc n) (Phase.Connecting s new) m le n
     (answered_fits g (Phase.Connecting s new) m (outcome_of (connect_order s new) (result_of x.0)) x.1 fits)
     (one_less g n t (rest g (Phase.Connecting s new) (result_of x.0) (held_of m) x.1 close) e (most (result_of x.0) x.1))
     (omega arith))
+answers_follow (x ∷ l) g number before zero (Phase.Providing p c) m le nb fits most sum = elim most [ ]
 answers_follow (x ∷ l) g number before (suc n) (Phase.Providing p c) m le nb fits most sum =
     let t = answered_of g (Phase.Providing p c) (Order.ConnectProvider p c) m (result_of x.0) x.1 in
     let e = providing_answered g p c m fits (result_of x.0) x.1 in

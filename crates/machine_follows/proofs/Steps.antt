@@ -2,8 +2,7 @@
 -- loop over all of them, and the rest is the same case distinction on both sides.
 use mathlib.Core.Path.{◌≡◌, refl, sym, ap, ◌∙◌}
 use mathlib.Core.Bool.{Bool, true, false, cond}
-use mathlib.Core.List.{List, [], ◌∷◌, ◌++◌}
-use Prim.Native.Nat.{ℕ, zero, suc, ◌+◌, ◌-◌, ◌<◌, ◌≤◌}
+use Prim.Native.Nat.{ℕ, zero, suc, ◌+◌, ◌-◌}
 use native.Mathlib.Omega.{arith}
 use lib.Dec.{ltb}
 use borrow.Author.Tests.{lt-ltb, le-ltb}
@@ -17,8 +16,7 @@ use Rattle.interface_display.specs.declared.AvailableConsumer.{AvailableConsumer
 use Rattle.interface_display.specs.declared.OptionAvailableConsumer.{OptionAvailableConsumer}
 use Rattle.abstract_policy.specs.State.{psu_of, charger_unpowered, with_consumer, with_unconstrained}
 use Rattle.abstract_policy.specs.Interaction.{unconstrained_of, reason_of, is_connected_consumer, same_available, find_best_consumer, update_unconstrained_state, attach_charger, post_consumer_connected, detach_charger, disconnect_chargers, disconnect_current, connect_consumer, connect_new_consumer, connect_best, update_current_consumer, close}
-use Rattle.abstract_policy.specs.Action.{Held, Interaction, done, ask, Action, ◌>>=◌, ◌>>◌, skip, set, notify, ok, charger_ok, charger, psu, when, unless, each}
-use Rattle.abstract_policy.specs.declared.state.InternalState.{InternalState}
+use Rattle.abstract_policy.specs.Action.{Held, Interaction, done, ask, Action, ◌>>◌, set, notify, ok, charger_ok, charger, psu, when, unless, each}
 use Rattle.abstract_policy.specs.declared.state.Records.{Records}
 use Rattle.abstract_policy.specs.declared.state.Registration.{Registration}
 use Rattle.abstract_policy.specs.declared.order.Order.{Order}
@@ -27,10 +25,9 @@ use Rattle.machine_state.specs.declared.memory.Memory.{Memory}
 use Rattle.machine_state.specs.declared.memory.UnconstrainedNotice.{UnconstrainedNotice}
 use Rattle.machine_state.specs.declared.phase.Leaver.{Leaver}
 use Rattle.machine_state.specs.declared.phase.Phase.{Phase}
-use Rattle.machine_state.specs.declared.phase.Stage.{Stage}
 use Rattle.machine_state.specs.declared.phase.Turn.{Turn}
-use Rattle.machine_update.specs.Update.{at, closed, updated_to, finish_update_of, connect_if, connect_psu_of, told_switch, switch_of, cleared, disconnect_of, connect_from, connect_new_of, left_of, leave_of, charge_stage, told_connected, charge_of, update_none, update_to, update_of}
-use Rattle.machine_follows.specs.Machine.{held_of, listed, charged, switched, leaving, rest, stands_at, stands_for, NotConnected, NotUpdated}
+use Rattle.machine_update.specs.Update.{at, finish_update_of, connect_if, connect_psu_of, told_switch, switch_of, cleared, disconnect_of, connect_from, left_of, leave_of, charge_stage, told_connected, charge_of, update_none, update_to, update_of}
+use Rattle.machine_follows.specs.Machine.{held_of, listed, charged, switched, leaving, stands_for, NotConnected, NotUpdated}
 use Rattle.machine_follows.proofs.Told.{told_disconnected, told_connected_lem, told_unconstrained}
 
 -- one test on both sides

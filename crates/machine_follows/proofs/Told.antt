@@ -9,7 +9,7 @@ use Rattle.power_policy_interface.specs.declared.service.UnconstrainedState.{Unc
 use Rattle.power_policy_interface.specs.declared.service.event.Event.{Event}
 use Rattle.interface_display.specs.declared.AvailableConsumer.{AvailableConsumer}
 use Rattle.interface_display.specs.declared.OptionAvailableConsumer.{OptionAvailableConsumer}
-use Rattle.machine_state.specs.Memory.{no_notices, tell_provider, tell_disconnected, tell_connected, tell_unconstrained}
+use Rattle.machine_state.specs.Memory.{tell_disconnected, tell_connected, tell_unconstrained}
 use Rattle.machine_state.specs.declared.memory.DisconnectedNotice.{DisconnectedNotice}
 use Rattle.machine_state.specs.declared.memory.Notices.{Notices}
 use Rattle.machine_state.specs.declared.memory.ProviderNotice.{ProviderNotice}

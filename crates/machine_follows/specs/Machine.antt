@@ -7,7 +7,7 @@ use Rattle.interface_display.specs.declared.AvailableConsumer.{AvailableConsumer
 use Rattle.interface_display.specs.declared.OptionAvailableConsumer.{OptionAvailableConsumer}
 use Rattle.abstract_policy.specs.State.{with_consumer}
 use Rattle.abstract_policy.specs.Interaction.{reason_of, update_unconstrained_state, attach_charger, post_consumer_connected, detach_charger, connect_consumer, post_provider_connected, close}
-use Rattle.abstract_policy.specs.Action.{Held, Interaction, done, ask, Action, ◌>>=◌, ◌>>◌, skip, set, notify, ok, charger_ok, charger, each}
+use Rattle.abstract_policy.specs.Action.{Held, Interaction, done, ask, Action, ◌>>◌, skip, set, notify, ok, charger_ok, charger, each}
 use Rattle.abstract_policy.specs.declared.state.Registration.{Registration}
 use Rattle.abstract_policy.specs.declared.order.Order.{Order}
 use Rattle.machine_state.specs.Memory.{no_notices}
