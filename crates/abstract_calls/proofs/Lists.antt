@@ -1,7 +1,7 @@
 -- Lists of calls, and the packets that those of the desk hand over.
 use mathlib.Core.List.{List, [], ◌∷◌, ◌++◌, append_assoc}
 use mathlib.Core.Path.{◌≡◌, refl, sym, ap, ◌∙◌}
-use Prim.Native.Nat.{ℕ, zero, suc}
+use Prim.Native.Nat.{ℕ}
 use lib.Dec.{lit<}
 use Rattle.interface_records.specs.Row.{AllBytes}
 use Rattle.abstract_desk.specs.Takes.{EachBytes}

@@ -1,20 +1,19 @@
 -- Each field of a number that was packed is had back by `/` and `%`, so equal numbers have equal fields.
-use mathlib.Core.Path.{◌≡◌, refl, sym, ap, ◌∙◌, subst}
+use mathlib.Core.Path.{◌≡◌, refl, sym, ap, ◌∙◌}
 use mathlib.Core.Bool.{Bool, true, false}
 use Prim.Native.Nat.{ℕ, ◌+◌, ◌*◌, ◌<◌, ◌≤◌, ◌/◌, ◌%◌}
 use native.Mathlib.Nat.{lt_of_le_of_lt, mod-eq_of_lt}
 use native.Mathlib.Omega.{arith}
 use lib.Dec.{lit<}
 use lib.ListN.{get_or}
-use mathlib.Core.List.{List, [], ◌∷◌}
+use mathlib.Core.List.{[], ◌∷◌}
 use Rattle.power_policy_interface.specs.Capability.{bit, psu_type_number, consumer_flags_byte, consumer_flags_from, provider_flags_byte, provider_flags_from}
-use Rattle.power_policy_interface.specs.Psu.{answer_from, answer_byte, error_byte, dropped, kind_number, expected_byte, actual_byte, mismatch_of}
+use Rattle.power_policy_interface.specs.Psu.{answer_from, answer_byte, dropped, kind_number, expected_byte, actual_byte, mismatch_of}
 use Rattle.power_policy_interface.specs.declared.capability.ConsumerFlags.{ConsumerFlags}
 use Rattle.power_policy_interface.specs.declared.capability.ConsumerPowerCapability.{ConsumerPowerCapability}
 use Rattle.power_policy_interface.specs.declared.capability.OptionConsumerFlags.{OptionConsumerFlags}
 use Rattle.power_policy_interface.specs.declared.capability.OptionProviderFlags.{OptionProviderFlags}
 use Rattle.power_policy_interface.specs.declared.capability.OptionPsuType.{OptionPsuType}
-use Rattle.power_policy_interface.specs.declared.capability.PowerCapability.{PowerCapability}
 use Rattle.power_policy_interface.specs.declared.capability.ProviderFlags.{ProviderFlags}
 use Rattle.power_policy_interface.specs.declared.capability.ProviderPowerCapability.{ProviderPowerCapability}
 use Rattle.power_policy_interface.specs.declared.capability.PsuType.{PsuType}
@@ -26,15 +25,14 @@ use Rattle.power_policy_interface.specs.declared.psu.StateKind.{StateKind}
 use Rattle.power_policy_interface.specs.declared.service.UnconstrainedState.{UnconstrainedState}
 use Rattle.power_policy_interface.proofs.OneByte.{consumer_injective, consumer_read_write, provider_read_write, answer_read_write}
 use Rattle.interface_display.specs.Providers.{len, ones}
-use Rattle.interface_display.specs.declared.AvailableConsumer.{AvailableConsumer}
 use Rattle.interface_display.specs.declared.Display.{Display}
 use Rattle.interface_display.specs.declared.OptionAvailableConsumer.{OptionAvailableConsumer}
 use Rattle.interface_display.specs.declared.providers.Providers.{Providers}
 use Rattle.interface_display.specs.declared.State.{State}
 use Rattle.interface_display.proofs.Count.{ones_le}
 use Rattle.abstract_policy.specs.declared.order.Order.{Order}
-use Rattle.abstract_calls.specs.Numbers.{packed, wait_ms, refused_number, bare_order, capability_order, order_number, closed_number, written_number, done_number, state_number, lost_number, shown_number, consumer_number, tracked_number}
-use Rattle.abstract_calls.specs.OneToOne.{CapabilityFits, OrderFits, MismatchFits, AnswerFits, ConsumerFits, ProvidersFit, DisplayFits, Outcomes, OneToOne}
+use Rattle.abstract_calls.specs.Numbers.{packed, wait_ms, refused_number, order_number, closed_number, written_number, state_number, lost_number, shown_number, consumer_number, tracked_number}
+use Rattle.abstract_calls.specs.OneToOne.{OrderFits, MismatchFits, AnswerFits, ConsumerFits, ProvidersFit, DisplayFits, OneToOne}
 use Rattle.abstract_calls.proofs.Results.{refused_low, order_low, closed_low, written_low, done_low, packed_low}
 
 -- one field after the other

@@ -4,14 +4,12 @@ use mathlib.Core.List.{List, [], ◌∷◌}
 use mathlib.Core.Path.{◌≡◌, refl, sym, ap, ◌∙◌, subst}
 use Prim.Native.Nat.{ℕ, zero, suc, ◌+◌, ◌*◌, ◌^◌, ◌≤◌, ◌-◌}
 use lib.Dec.{eqb, leb, ltb, lit≤}
-use lib.ListN.{get_or}
 use native.Mathlib.Omega.{arith}
 use borrow.Author.Tests.{eqb-true, eqb-false}
 use Rattle.power_policy_interface.specs.Capability.{consumer_flags_from, provider_flags_from, disconnect_from}
 use Rattle.power_policy_interface.specs.declared.capability.OptionConsumerFlags.{OptionConsumerFlags}
 use Rattle.power_policy_interface.specs.declared.capability.OptionDisconnectFlags.{OptionDisconnectFlags}
 use Rattle.power_policy_interface.specs.declared.capability.OptionProviderFlags.{OptionProviderFlags}
-use Rattle.power_policy_interface.specs.declared.service.event.Event.{Event}
 use Rattle.interface_display.specs.Notices.{empty, pushed}
 use Rattle.interface_display.specs.declared.OptionAvailableConsumer.{OptionAvailableConsumer}
 use Rattle.interface_display.specs.declared.notices.Notices.{Notices}
@@ -19,8 +17,8 @@ use Rattle.interface_display.specs.declared.packet.Packet.{Packet}
 use Rattle.abstract_policy.specs.Refusals.{first_refused}
 use Rattle.abstract_policy.proofs.First.{first}
 use Rattle.wire.specs.Number.{digit_before, digits_read, within, read_number}
-use Rattle.wire.specs.Packet.{consumer_flags_given, provider_flags_given, reason_given, capability, contract, consumer, unconstrained, consumer_disconnected, consumer_connected, provider_disconnected, provider_connected, unconstrained_changed, notice_kinds, notice_of, notice, notices, ports, event_notices, event_after, event, consumer_given, picture_after, picture, packet_of, packet}
-use Rattle.wire.specs.Parser.{Parsed, refused, parsed, Parser, then, wrong, holds, byte, end, field, number_rest, number}
+use Rattle.wire.specs.Packet.{consumer_flags_given, provider_flags_given, reason_given, capability, contract, consumer, unconstrained, consumer_disconnected, consumer_connected, provider_disconnected, provider_connected, unconstrained_changed, notice_of, notice, notices, ports, event_notices, event_after, event, consumer_given, picture_after, picture, packet_of, packet}
+use Rattle.wire.specs.Parser.{Parsed, refused, parsed, Parser, then, holds, byte, end, field, number_rest, number}
 use Rattle.wire.specs.Read.{packet_read, read_packet}
 use Rattle.wire.specs.declared.number.ReadNumber.{ReadNumber}
 use Rattle.wire.specs.declared.packet.ReadPacket.{ReadPacket}

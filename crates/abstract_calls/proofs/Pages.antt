@@ -1,6 +1,6 @@
 -- A page in a buffer: it is turned back by 34 alone, which leaves the buffer; else the page stands in the first 246 bytes, and is read there.
 use mathlib.Core.Bool.{Bool, true, false, cond}
-use mathlib.Core.List.{List, [], ◌∷◌, ◌++◌}
+use mathlib.Core.List.{List, [], ◌∷◌}
 use mathlib.Core.Path.{◌≡◌, refl, sym, ap, ◌∙◌}
 use Prim.Native.Nat.{ℕ, ◌+◌, ◌%◌, ◌≤◌}
 use native.Mathlib.Omega.{arith}
@@ -9,7 +9,6 @@ use lib.ListN.{length, take, drop}
 use lib.Seq.{sets, sets-eq, take_at}
 use borrow.Author.Tests.{le-ltb}
 use Rattle.power_policy_interface.specs.Limits.{page_length}
-use Rattle.abstract_policy.specs.Refusals.{first_refused}
 use Rattle.abstract_policy.proofs.First.{first}
 use Rattle.abstract_page.specs.Page.{Entry, lines}
 use Rattle.abstract_page.specs.ReadPage.{read_page}
@@ -17,7 +16,6 @@ use Rattle.wire_writer.specs.declared.Written.{Written}
 use Rattle.abstract_calls.specs.Definition.{Refuses}
 use Rattle.abstract_calls.specs.DeskCall.{page_conditions}
 use Rattle.abstract_calls.specs.Lent.{written_as, page_call}
-use Rattle.abstract_calls.specs.Numbers.{refused_number}
 use Rattle.abstract_calls.proofs.Results.{written_low}
 
 module _ (page buffer : List ℕ) where

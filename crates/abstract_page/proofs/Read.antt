@@ -7,7 +7,7 @@ use mathlib.Core.List.{List, [], ◌∷◌, ◌++◌, append-nil, append_assoc}
 use Prim.Native.Nat.{ℕ, zero, suc, ◌+◌, ◌*◌, ◌-◌, ◌/◌, ◌%◌, ◌^◌, ◌≤◌, ◌<◌}
 use native.Mathlib.Omega.{arith}
 use lib.Dec.{eqb, leb, ltb}
-use lib.ListN.{length, take, drop, replicate, length-append}
+use lib.ListN.{length, take, drop, length-append}
 use lib.Seq.{take_at, drop_at}
 use borrow.Author.Tests.{leb-true, ne_eqb}
 use Rattle.power_policy_interface.specs.Limits.{largest, max_ports, page_length}
@@ -22,7 +22,7 @@ use Rattle.wire.specs.Bytes.{ports_from, ports_bytes}
 use Rattle.wire.specs.WellFormed.{picture_fits, consumer_fits}
 use Rattle.wire.proofs.Tracked.{count_ports}
 use Rattle.abstract_desk.specs.Follower as desk
-use Rattle.abstract_page.specs.Text.{blank, comma, hyphen, newline, decimal, word, left, right}
+use Rattle.abstract_page.specs.Text.{blank, comma, hyphen, newline, decimal, left, right}
 use Rattle.abstract_page.specs.Page.{Figure, absent, numbers, state, Entry, commas, text, line, lines, one, millivolts, milliamps, of_consumer, ports, entries, lost_entries, shown_entries, entries_of, page_of, Fits}
 use Rattle.abstract_page.specs.ReadPage.{trim_front, trim_end, same, read_numbers, read_figure, read_line, read_lines, read_page}
 use Rattle.abstract_page.proofs.Columns.{left_length, right_length, right_short, trim_blanks}
@@ -194,9 +194,9 @@ module _ (s : State) (n : ℕ) (d : Display) (h : picture_fits (record { number 
   few : leb (len d.providers) max_connected_providers ≡ true
   few = and_right (ltb d.providers.mask 65536) _ (and_right (leb d.unconstrained.available max_ports) _ (and_right (consumer_fits d.consumer) _ display_fits))
 
-  of_consumer : (f : AvailableConsumer → ℕ) → ((a : AvailableConsumer) → consumer_fits (OptionAvailableConsumer.Some a) ≡ true → f a < 10 ^ 10)
+  of_consumer_lem : (f : AvailableConsumer → ℕ) → ((a : AvailableConsumer) → consumer_fits (OptionAvailableConsumer.Some a) ≡ true → f a < 10 ^ 10)
       → FigureFits (of_consumer f d.consumer)
-  of_consumer f h = consumer_fits_lem f d.consumer h (and_left (consumer_fits d.consumer) _ display_fits)
+  of_consumer_lem f h = consumer_fits_lem f d.consumer h (and_left (consumer_fits d.consumer) _ display_fits)
 
   tracked_fit : FigureFits (ports (ports_bytes d.providers.mask))
   tracked_fit = set_fits d.providers few
@@ -209,9 +209,9 @@ module _ (s : State) (n : ℕ) (d : Display) (h : picture_fits (record { number 
       (of_consumer milliamps d.consumer)
       (ports (ports_bytes d.providers.mask))
       (one_fits n number_below) tt
-      (of_consumer (λ c. c.psu) (λ a e. omega (arith, leb-true a.psu 15 (and_left (leb a.psu 15) _ e))))
-      (of_consumer millivolts (λ a e. omega (arith, leb-true (millivolts a) 65535 (and_left (leb (millivolts a) 65535) (leb (milliamps a) 65535) (and_right (leb a.psu 15) _ e)))))
-      (of_consumer milliamps (λ a e. omega (arith, leb-true (milliamps a) 65535 (and_right (leb (millivolts a) 65535) (leb (milliamps a) 65535) (and_right (leb a.psu 15) _ e)))))
+      (of_consumer_lem (λ c. c.psu) (λ a e. omega (arith, leb-true a.psu 15 (and_left (leb a.psu 15) _ e))))
+      (of_consumer_lem millivolts (λ a e. omega (arith, leb-true (millivolts a) 65535 (and_left (leb (millivolts a) 65535) (leb (milliamps a) 65535) (and_right (leb a.psu 15) _ e)))))
+      (of_consumer_lem milliamps (λ a e. omega (arith, leb-true (milliamps a) 65535 (and_right (leb (millivolts a) 65535) (leb (milliamps a) 65535) (and_right (leb a.psu 15) _ e)))))
       tracked_fit
 
 -- a page has its length, and is read as what it says

@@ -1,9 +1,9 @@
 -- Equal pages tell the same: what is read from them is equal, entry by entry, and each figure is one of the follower's.
 -- Assumes nothing.
 use mathlib.Core.Path.{◌≡◌, refl, ap, sym, ◌∙◌}
-use mathlib.Core.Bool.{Bool, true, ◌&&◌}
+use mathlib.Core.Bool.{true}
 use mathlib.Core.List.{List, [], ◌∷◌}
-use mathlib.Core.Option.{Option, none, some}
+use mathlib.Core.Option.{some}
 use Prim.Native.Nat.{ℕ, zero, suc, ◌<◌}
 use native.Mathlib.Omega.{arith}
 use lib.Dec.{leb, ltb}
@@ -11,18 +11,18 @@ use lib.ListN.{length}
 use borrow.Author.Tests.{ltb-true}
 use Rattle.power_policy_interface.specs.Limits.{largest, max_ports}
 use Rattle.power_policy_interface.proofs.Conjunction.{and_left, and_right}
-use Rattle.interface_display.specs.Providers.{len, max_connected_providers}
+use Rattle.interface_display.specs.Providers.{len}
 use Rattle.interface_display.specs.declared.Display.{Display}
 use Rattle.interface_display.specs.declared.OptionAvailableConsumer.{OptionAvailableConsumer}
 use Rattle.interface_display.specs.declared.providers.Providers.{Providers}
 use Rattle.interface_display.specs.declared.State.{State}
 use Rattle.wire.specs.Bytes.{ports_bytes}
 use Rattle.wire.specs.Packet as wire
-use Rattle.wire.specs.Parser.{Parsed, parsed}
+use Rattle.wire.specs.Parser.{parsed}
 use Rattle.wire.specs.WellFormed.{picture_fits, consumer_fits}
 use Rattle.wire.proofs.Tracked.{count_ports, tracked_back}
 use Rattle.abstract_desk.specs.Follower as desk
-use Rattle.abstract_page.specs.Page.{Figure, absent, numbers, state, Entry, one, millivolts, milliamps, of_consumer, ports, lost_entries, shown_entries, entries_of, page_of, Fits}
+use Rattle.abstract_page.specs.Page.{Figure, absent, state, Entry, one, millivolts, milliamps, of_consumer, ports, entries_of, page_of, Fits}
 use Rattle.abstract_page.specs.PageLaws.{consumed, told, PageLaws}
 use Rattle.abstract_page.specs.ReadPage.{read_page}
 use Rattle.abstract_page.proofs.Read.{line_length, line_ends, page_length_lem, page_read}

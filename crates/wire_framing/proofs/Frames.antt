@@ -1,20 +1,18 @@
 -- What framing gives: for length, packet and rest that packet; a frame is within the bytes; what follows a frame or a refused length changes
 -- nothing.
 -- Assumes nothing.
-use mathlib.Core.Path.{◌≡◌, refl, ap, sym, ◌∙◌}
+use mathlib.Core.Path.{◌≡◌, refl, ap, ◌∙◌}
 use mathlib.Core.Bool.{Bool, true, false, cond}
-use mathlib.Core.List.{List, [], ◌∷◌, ◌++◌, append_assoc}
-use Prim.Native.Nat.{ℕ, zero, suc, ◌+◌, ◌-◌, ◌*◌, ◌≤◌, ◌<◌}
+use mathlib.Core.List.{List, [], ◌∷◌, ◌++◌}
+use Prim.Native.Nat.{ℕ, zero, suc, ◌+◌, ◌-◌, ◌*◌, ◌≤◌}
 use native.Mathlib.Omega.{arith}
 use lib.Dec.{eqb, leb, ltb}
-use lib.ListN.{length, take, drop, length-append, length-drop}
+use lib.ListN.{length, take, drop, length-append}
 use lib.Seq.{take-append_seam, drop-append_seam}
-use borrow.Author.Tests.{lt-ltb, le-ltb, le-leb, eq-eqb, ne_eqb, eqb-true, eqb-false, ltb-true, ltb-false, leb-true, leb-false}
+use borrow.Author.Tests.{le-ltb, le-leb, ne_eqb, eqb-true, eqb-false, ltb-false, leb-true, leb-false}
 use Rattle.wire.specs.Number.{leb128, read_number, digits_read, digit_before, within}
 use Rattle.wire.specs.declared.number.ReadNumber.{ReadNumber}
 use Rattle.wire.proofs.OneNumber.{AllBytes, read_write, write_read}
-use Rattle.wire.proofs.Stores.{length_from}
-use Rattle.wire.proofs.Reading.{number_bounds}
 use Rattle.wire_framing.specs.Framing.{sized, framed_at, framed}
 use Rattle.wire_framing.specs.declared.Framed.{Framed}
 
