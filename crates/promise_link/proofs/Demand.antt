@@ -36,6 +36,7 @@ takes_on_lem f [] m = refl
 takes_on_lem f (b ∷ l) m = takes_on_lem (take_bytes f b) l m
 
 met_left : (p : Packet) (l m : List (List ℕ)) → Met p l → Met p (l ++ m)
+met_left p [] m q = elim q [ ]
 met_left p (b ∷ l) m q = ⊎_elim (λ r. inl r) (λ z. inr (met_left p l m z)) q
 
 met_right : (p : Packet) (l m : List (List ℕ)) → Met p m → Met p (l ++ m)
@@ -57,6 +58,7 @@ module _ (source : Source) where
   met_copy p b (turned_back n e) r = absurd (not_refused r e)
 
   met_written : (p : Packet) (l : List (List ℕ)) → AllCarried source l → Met p l → source.Written p
+  met_written p [] h q = elim q [ ]
   met_written p (b ∷ l) h q = ⊎_elim (λ r. met_copy p b h.0 r) (λ m. met_written p l h.1 m) q
 
   -- after a list of takes from a fresh follower

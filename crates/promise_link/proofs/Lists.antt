@@ -1,13 +1,12 @@
 -- Whole lists: by induction, each take one step of OneTake.antt. Bytes that were written are read as what was written, and bytes that are
 -- turned back change nothing.
 use mathlib.Core.Path.{◌≡◌, refl, ap, sym, ◌∙◌, subst}
-use mathlib.Core.Bool.{Bool, true, false, cond, ◌&&◌}
-use mathlib.Core.List.{List, [], ◌∷◌, ◌++◌}
+use mathlib.Core.Bool.{Bool, true, ◌&&◌}
+use mathlib.Core.List.{List, [], ◌∷◌}
 use mathlib.Core.Logic.{◌⊎◌, inl, inr, ⊎_elim}
-use Prim.Native.Nat.{ℕ, zero, suc, ◌+◌, ◌≤◌, ◌<◌}
-use native.Mathlib.Omega.{arith}
+use Prim.Native.Nat.{ℕ}
 use lib.Dec.{leb, ltb}
-use borrow.Author.Tests.{leb-true, ltb-true, ltb-false}
+use borrow.Author.Tests.{leb-true}
 use Rattle.interface_display.specs.Notices.{listed, padded}
 use Rattle.interface_display.specs.declared.packet.EventPacket.{EventPacket}
 use Rattle.interface_display.specs.declared.packet.Packet.{Packet}
@@ -18,17 +17,16 @@ use Rattle.wire.specs.WellFormed.{well_formed, notices_fit, event_fits, picture_
 use Rattle.wire.specs.declared.packet.ReadPacket.{ReadPacket}
 use Rattle.wire.proofs.OnePacket.{read_write}
 use Rattle.power_policy_interface.proofs.Conjunction.{and_left, and_right}
-use Rattle.desk_follower.specs.Follower.{fresh, taken}
+use Rattle.desk_follower.specs.Follower.{taken}
 use Rattle.desk_follower.specs.WellFormed.{Readable}
 use Rattle.desk_follower.specs.declared.Follower.{Follower}
 use Rattle.desk_follower.specs.declared.Shown.{Shown}
 use Rattle.desk_follower.specs.declared.held.Held.{Held}
-use Rattle.desk_follower.proofs.Kept.{fresh_kept}
 use Rattle.promise_link.specs.Source.{Source}
 use Rattle.promise_link.specs.Takes.{taken_read, take_bytes, takes_bytes, Carried, copy, turned_back, AllCarried, Met}
 use Rattle.promise_link.proofs.Places.{all_map}
-use Rattle.promise_link.proofs.Turns.{Known, GoodAt, ShownFrom}
-use Rattle.promise_link.proofs.OneTake.{With, Kept, event_kept, picture_kept, event-stays, picture-stays}
+use Rattle.promise_link.proofs.Turns.{Known, GoodAt}
+use Rattle.promise_link.proofs.OneTake.{With, Kept, event_kept, picture_kept}
 
 -- what was written is readable, and is read as itself
 

@@ -1,24 +1,24 @@
 -- One take keeps what Turns.antt says of a follower, with the packet handed over among those met.
 use mathlib.Core.Path.{◌≡◌, refl, ap, sym, ◌∙◌, subst}
-use mathlib.Core.Bool.{Bool, true, false, cond, ◌&&◌}
+use mathlib.Core.Bool.{Bool, true, false, cond}
 use mathlib.Core.Logic.{◌⊎◌, inl, inr, ⊎_elim}
-use Prim.Native.Nat.{ℕ, zero, suc, ◌+◌, ◌%◌, ◌≤◌, ◌<◌, max}
+use Prim.Native.Nat.{ℕ, ◌+◌, ◌%◌, ◌≤◌, ◌<◌, max}
 use native.Mathlib.Nat.{le-max_left, le-max_right, max-eq_left, max-eq_right}
 use native.Mathlib.Omega.{arith}
 use lib.Dec.{eqb, leb, ltb}
-use lib.ListN.{length, length-set}
+use lib.ListN.{length-set}
 use borrow.Author.Tests.{eqb-true, eqb-false, leb-true, leb-false, ltb-true, ltb-false}
 use Rattle.interface_display.specs.declared.packet.EventPacket.{EventPacket}
 use Rattle.interface_display.specs.declared.packet.Packet.{Packet}
 use Rattle.interface_display.specs.declared.packet.Picture.{Picture}
 use Rattle.desk_follower.specs.Follower.{lost, showing, settled, taken, taken_at, taken_event, taken_picture}
-use Rattle.desk_follower.specs.Held.{none, nothing, packet_at, held_for, holds, placed, greatest, above}
+use Rattle.desk_follower.specs.Held.{nothing, packet_at, held_for, holds, placed, greatest, above}
 use Rattle.desk_follower.specs.WellFormed.{Within, WellFormedAt, WellFormed, Readable}
 use Rattle.desk_follower.specs.declared.Follower.{Follower}
 use Rattle.desk_follower.specs.declared.Shown.{Shown}
 use Rattle.desk_follower.specs.declared.held.Held.{Held}
 use Rattle.desk_follower.proofs.Kept.{mod8, picture_within, event_within, seen, take_kept}
-use Rattle.desk_follower.proofs.Laws.{greatest_base, greatest_held, above_stays}
+use Rattle.desk_follower.proofs.Laws.{greatest_base, above_stays}
 use Rattle.promise_link.specs.Source.{Source}
 use Rattle.promise_link.proofs.Places.{AllHeld, all_nothing, all_map, all_put, all_above, all_has, Has, has_bounds, placed_here, placed_there}
 use Rattle.promise_link.proofs.Turns.{Known, Upper, Reached, Waits, GoodAt, Good, upper_held, reached_held, settled_good, ShownFrom, NoErrors, turn_shown, from_less}

@@ -1,12 +1,12 @@
 -- What is held in the eight places, by the packets put there and taken away: a place holds what it held, or what was put there.
 use mathlib.Core.Path.{◌≡◌, refl, ap, sym, ◌∙◌, subst}
-use mathlib.Core.Bool.{Bool, true, false, cond}
+use mathlib.Core.Bool.{Bool, true, false}
 use mathlib.Core.Logic.{◌⊎◌, inl, inr, ⊎_elim}
 use Prim.Native.Nat.{ℕ, zero, suc, ◌+◌, ◌%◌, ◌≤◌, ◌<◌, max}
 use native.Mathlib.Nat.{max-eq_left, max-eq_right}
 use native.Mathlib.Omega.{arith}
 use lib.Dec.{eqb, ltb}
-use lib.ListN.{length, get_or, set}
+use lib.ListN.{length}
 use lib.Seq.{get_or-set_same, get_or-set_other}
 use borrow.Author.Tests.{eqb-true, eqb-false, ltb-true, ltb-false}
 use Rattle.interface_display.specs.declared.packet.EventPacket.{EventPacket}
@@ -14,7 +14,6 @@ use Rattle.desk_follower.specs.Held.{none, nothing, packet_at, put, held_for, pl
 use Rattle.desk_follower.specs.WellFormed.{Within}
 use Rattle.desk_follower.specs.declared.held.Held.{Held}
 use Rattle.desk_follower.proofs.Kept.{mod8, none_at, seen}
-use Rattle.desk_follower.proofs.Laws.{greatest_base, greatest_held, above_stays}
 
 -- each packet that is held has a property
 abbrev pub AllHeld : (EventPacket → Type 0) → Held → Type 0

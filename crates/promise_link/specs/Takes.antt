@@ -3,7 +3,6 @@
 use Rattle.std.specs.Prelude.{ℕ, List, [], ◌∷◌, ◌⊎◌, ◌≡◌}
 use Rattle.interface_display.specs.declared.Display.{Display}
 use Rattle.interface_display.specs.declared.packet.Packet.{Packet}
-use Rattle.interface_display.specs.declared.packet.Picture.{Picture}
 use Rattle.wire.specs.Bytes.{packet_bytes}
 use Rattle.wire.specs.Read.{read_packet}
 use Rattle.wire.specs.declared.packet.ReadPacket.{ReadPacket}
