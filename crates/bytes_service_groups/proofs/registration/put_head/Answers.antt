@@ -1,0 +1,6 @@
+-- The three parts are stored one after the other.
+use Rattle.bytes_service_groups.proofs.registration.put_head.Goals as goal
+
+pub returns : goal.returns
+returns c =
+    rw (c.put-3.ensures, c.put-2.ensures, c.put.ensures, c.bytes-n.ensures, c.of_number.ensures, c.bytes-a.ensures, c.registered_of.ensures)
