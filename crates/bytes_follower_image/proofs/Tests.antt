@@ -57,14 +57,14 @@ module _ (g : Group) where
   abbrev rest : ℕ
   rest = four_bytes g.v1 g.c0 g.c1 g.flags
 
-  rest_zero : eqb rest 0 ≡ rest_zero g
-  rest_zero =
+  rest_tested : eqb rest 0 ≡ rest_zero g
+  rest_tested =
       both (eqb rest 0) (rest_zero g)
       (λ e. eq-eqb (g.v1 + g.c0 + g.c1 + g.flags) 0 (omega (arith, eqb-true rest 0 e)))
       (λ e. eq-eqb rest 0 (omega (arith, eqb-true (g.v1 + g.c0 + g.c1 + g.flags) 0 e)))
 
-  all_zero : pair_fits g.v0 0 rest ≡ all_zero g
-  all_zero =
+  all_tested : pair_fits g.v0 0 rest ≡ all_zero g
+  all_tested =
       both (pair_fits g.v0 0 rest) (all_zero g)
       (λ e. eq-eqb (g.v0 + g.v1 + g.c0 + g.c1 + g.flags) 0
       (omega (arith, leb-true g.v0 0 (and_left (leb g.v0 0) (eqb rest 0) e), eqb-true rest 0 (and_right (leb g.v0 0) (eqb rest 0) e))))
@@ -97,17 +97,17 @@ provider port c f false false = refl
 kind_tested : (n : ℕ) (g : Group)
     → get_or (kind_cases g.number g.v0 (rest g) g.flags) n false ≡ is_notice (get_or (notice_cases g) n ReadNotice.Refused)
 kind_tested zero g = refl
-kind_tested (suc zero) g = rw (rest_zero g) (after (rest_zero g) (leb g.v0 6) (reason_read g.number (disconnect_from g.v0)) (reason g.number g.v0))
+kind_tested (suc zero) g = rw (rest_tested g) (after (rest_zero g) (leb g.v0 6) (reason_read g.number (disconnect_from g.v0)) (reason g.number g.v0))
 kind_tested (suc (suc zero)) g =
     consumer g.number (capability_from g)
     (record { unconstrained_power = eqb (g.flags % 2) 1; psu_type = psu_type_from (g.flags / 2) })
     (leb (g.flags / 2) 6)
-kind_tested (suc (suc (suc zero))) g = all_zero g ∙ given (all_zero g) (Event.ProviderDisconnected g.number)
+kind_tested (suc (suc (suc zero))) g = all_tested g ∙ given (all_zero g) (Event.ProviderDisconnected g.number)
 kind_tested (suc (suc (suc (suc zero)))) g =
     provider g.number (capability_from g) (record { psu_type = psu_type_from (g.flags / 2) }) (eqb (g.flags % 2) 1)
     (leb (g.flags / 2) 6)
 kind_tested (suc (suc (suc (suc (suc zero))))) g =
-    rw (rest_zero g)
+    rw (rest_tested g)
     (given (leb g.number 1 && (leb g.v0 16 && rest_zero g))
     (Event.Unconstrained (record { unconstrained = eqb g.number 1; available = g.v0 })))
 kind_tested (suc (suc (suc (suc (suc (suc n)))))) g = refl
