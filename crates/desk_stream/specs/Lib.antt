@@ -1,3 +1,4 @@
 pub mod Ran
 pub mod Held
 pub mod Took
+pub mod Known

@@ -1,13 +1,15 @@
 // Bytes read from standard input, and those kept of a packet that is not whole.
-ghost use Rattle.std.specs.Prelude.{◌≡◌, ◌-◌, ◌≤◌, ◌<◌, length, take};
+ghost use Rattle.std.specs.Prelude.{◌≡◌, ◌-◌, ◌≤◌, ◌<◌, length, take, []};
 ghost use Rattle.desk_stream.specs.Ran.{Ends};
 ghost use Rattle.desk_stream.specs.Took.{Took, Read, moved};
+ghost use Rattle.desk_stream.specs.Known.{Wrote, Tells, Passes};
+ghost use Rattle.desk_report.specs.Desk.{end_bytes};
 
 use crate::End;
 use crate::sink::{Sink, write_out};
 use crate::take::{Go, take_all};
 use desk_report::desk::Desk;
-use libc::STDIN_FILENO;
+use std::io::{Read, Write};
 
 // After reading once: the first `have` bytes are not taken yet.
 #[derive(Clone, Copy)]
@@ -43,14 +45,22 @@ fn keep(input: &mut [u8], from: usize, to: usize) -> usize
 }
 
 // Takes what the first `to` bytes hold, writes the lines, and keeps the bytes of a packet that is not whole yet.
-fn take_front(desk: Desk, sink: Sink, input: &mut [u8], to: usize, buffer: &mut [u8; 4096]) -> Turn
+fn take_front<W: Write>(
+    desk: Desk,
+    sink: Sink,
+    out: &mut W,
+    input: &mut [u8],
+    to: usize,
+    buffer: &mut [u8; 4096],
+) -> Turn
     requires { to ≤ length input.old }
-    ensures { (result.have ≤ 68) × (length input.new ≡ length input.old) × Took desk sink (take to input.old) result.desk (take result.have input.new) result.go }
+    ensures took { (result.have ≤ 68) × (length input.new ≡ length input.old) × Took desk sink (take to input.old) result.desk (take result.have input.new) result.go }
+    ensures tells { Tells desk sink (take to input.old) (W.contents out.old) (W.contents out.new) [] result.go }
 {
-    let ran = take_all(desk, sink, &input[..to], buffer);
+    let ran = take_all(desk, sink, out, &input[..to], buffer);
     let after = ran.desk;
     let go = ran.go;
-    if !write_out(sink, buffer, ran.full) {
+    if !write_out(sink, out, buffer, ran.full) {
         return stop(desk, End::Unwritten);
     }
     match go {
@@ -69,35 +79,40 @@ fn take_front(desk: Desk, sink: Sink, input: &mut [u8], to: usize, buffer: &mut 
 }
 
 // The input has ended with these bytes left.
-fn finish(desk: Desk, sink: Sink, rest: &[u8]) -> End
-    ensures { Ends sink result }
+fn finish<W: Write>(desk: Desk, sink: Sink, out: &mut W, rest: &[u8]) -> End
+    ensures ends { Ends sink result }
+    ensures wrote { result ≡ End.Read → Wrote sink (W.contents out.old) (W.contents out.new) (end_bytes desk rest.now) }
+    ensures tried { result ≡ End.Unread → ⊥ }
 {
     let mut line = [0u8; 128];
     let n = desk.end(rest, &mut line);
-    if write_out(sink, &line, n) {
+    if write_out(sink, out, &line, n) {
         return End::Read;
     }
     End::Unwritten
 }
 
 // Reads once, after the first `have` bytes, where there is room, and takes what is there.
-pub(crate) fn read_on(
+pub(crate) fn read_on<R: Read, W: Write>(
     desk: Desk,
     sink: Sink,
+    reader: &mut R,
+    out: &mut W,
     input: &mut [u8],
     have: usize,
     buffer: &mut [u8; 4096],
 ) -> Turn
     requires { have < length input.old }
-    ensures { (result.have ≤ 68) × (length input.new ≡ length input.old) × Read desk sink (take have input.old) result.desk (take result.have input.new) result.go }
+    ensures took { (result.have ≤ 68) × (length input.new ≡ length input.old) × Read desk sink (take have input.old) result.desk (take result.have input.new) result.go }
+    ensures passes { Passes desk sink (take have input.old) (R.remaining reader.old) (R.remaining reader.new) (W.contents out.old) (W.contents out.new) result.desk (take result.have input.new) result.go }
 {
-    let got = libc::read(STDIN_FILENO, &mut input[have..]);
-    if got < 0 {
-        return stop(desk, End::Unread);
+    match reader.read(&mut input[have..]) {
+        Err(_) => stop(desk, End::Unread),
+        Ok(n) => {
+            if n == 0 {
+                return stop(desk, finish(desk, sink, out, &input[..have]));
+            }
+            take_front(desk, sink, out, input, have + n, buffer)
+        }
     }
-    let n = io::count(got, &input[have..]);
-    if n == 0 {
-        return stop(desk, finish(desk, sink, &input[..have]));
-    }
-    take_front(desk, sink, input, have + n, buffer)
 }

@@ -7,20 +7,23 @@ mod input;
 pub mod sink;
 mod take;
 
-ghost use Rattle.std.specs.Prelude.{◌≡◌, ◌<◌, length};
+ghost use Rattle.std.specs.Prelude.{◌≡◌, ◌<◌, length, IfSome};
+ghost use Rattle.desk_report.specs.Desk.{output_of, desk_of};
 ghost use Rattle.desk_stream.specs.Ran.{Seen, ended_by, Ends};
+ghost use Rattle.desk_stream.specs.Known.{Wrote, RunsOver};
 
 use crate::input::read_on;
 use crate::sink::Sink;
 use crate::take::Go;
 use desk_report::desk::Desk;
+use std::io::{Read, Write};
 
 // Why a run has ended.
 #[derive(Clone, Copy)]
 pub enum End {
-    // Standard input has ended, or a refused length stopped it.
+    // The input has ended, or a refused length stopped it.
     Read,
-    // Standard input could not be read on.
+    // The input could not be read on.
     Unread,
     // Lines that are needed could not be written.
     Unwritten,
@@ -33,14 +36,22 @@ pub struct Ended {
 }
 
 // A proved loop has to end: it counts its turns down, from a number that no run uses up.
-fn turns(mut desk: Desk, sink: Sink, input: &mut [u8], buffer: &mut [u8; 4096]) -> Ended
+fn turns<R: Read, W: Write>(
+    mut desk: Desk,
+    sink: Sink,
+    reader: &mut R,
+    out: &mut W,
+    input: &mut [u8],
+    buffer: &mut [u8; 4096],
+) -> Ended
     requires { 68 < length input.old }
-    ensures { ((w : Seen) × (result ≡ ended_by desk w)) × Ends sink result.end }
+    ensures value { ((w : Seen) × (result ≡ ended_by desk w)) × Ends sink result.end }
+    ensures over { RunsOver desk sink (R.remaining reader.old) (R.remaining reader.new) (W.contents out.old) (W.contents out.new) result }
 {
     let mut have: usize = 0;
     let mut rest: u64 = 18446744073709551615;
     while 0 < rest {
-        let turn = read_on(desk, sink, input, have, buffer);
+        let turn = read_on(desk, sink, reader, out, input, have, buffer);
         desk = turn.desk;
         let go = turn.go;
         match go {
@@ -60,11 +71,14 @@ fn turns(mut desk: Desk, sink: Sink, input: &mut [u8], buffer: &mut [u8; 4096]) 
 }
 
 // Reads to the end, from this desk on. Where lines could not be written, the desk is the one before the read that gave them.
-pub fn run(desk: Desk, sink: Sink) -> Ended
+pub fn run<R: Read, W: Write>(desk: Desk, sink: Sink, reader: &mut R, out: &mut W) -> Ended
     ensures value { (w : Seen) × (result ≡ ended_by desk w) }
     ensures ends { Ends sink result.end }
+    ensures over { RunsOver desk sink (R.remaining reader.old) (R.remaining reader.new) (W.contents out.old) (W.contents out.new) result }
+    // Of a reader whose bytes are known: the desk at their end, and what is written for them all, however they were read.
+    ensures whole { result.end ≡ End.Read → IfSome (R.remaining reader.old) (λ s. (result.desk ≡ desk_of desk s) × Wrote sink (W.contents out.old) (W.contents out.new) (output_of desk s)) }
 {
     let mut input = [0u8; 4096];
     let mut buffer = [0u8; 4096];
-    turns(desk, sink, &mut input, &mut buffer)
+    turns(desk, sink, reader, out, &mut input, &mut buffer)
 }

@@ -1,14 +1,15 @@
 // Where lines go. They are collected in a lent buffer, which is written out where the next line has no room in it, and always before the
 // next read, so that no line waits for a packet that has yet to come.
-ghost use Rattle.std.specs.Prelude.{◌≡◌, ◌≤◌, length, take};
+ghost use Rattle.std.specs.Prelude.{◌≡◌, ◌≤◌, ◌++◌, length, take, true};
 ghost use Rattle.desk_stream.specs.Ran.{Goes};
 ghost use Rattle.desk_stream.specs.Held.{held};
+ghost use Rattle.desk_stream.specs.Known.{Wrote, Owes};
 
 use desk_report::buffer::store;
+use std::io::Write;
 
 #[derive(Clone, Copy)]
 pub struct Sink {
-    pub fd: i32,
     // Whether a write that fails ends the run; else its lines are dropped.
     pub needed: bool,
 }
@@ -21,11 +22,12 @@ pub(crate) struct Added {
 }
 
 // Writes out the first bytes of the buffer, and says whether to go on.
-pub(crate) fn write_out(sink: Sink, buffer: &[u8], full: usize) -> bool
+pub(crate) fn write_out<W: Write>(sink: Sink, out: &mut W, buffer: &[u8], full: usize) -> bool
     requires { full ≤ length buffer.now }
-    ensures { Goes sink result }
+    ensures goes { Goes sink result }
+    ensures wrote { result ≡ true → Wrote sink (W.contents out.old) (W.contents out.new) (take full buffer.now) }
 {
-    if io::write_all(sink.fd, &buffer[..full]) {
+    if out.write_all(&buffer[..full]).is_ok() {
         return true;
     }
     if sink.needed {
@@ -35,9 +37,16 @@ pub(crate) fn write_out(sink: Sink, buffer: &[u8], full: usize) -> bool
 }
 
 // Adds a line to the buffer. Where it has no room, what stands there is written out first.
-pub(crate) fn add(sink: Sink, buffer: &mut [u8; 4096], full: usize, line: &[u8]) -> Added
+pub(crate) fn add<W: Write>(
+    sink: Sink,
+    out: &mut W,
+    buffer: &mut [u8; 4096],
+    full: usize,
+    line: &[u8],
+) -> Added
     requires { (full ≤ 4096) × (length line.now ≤ 4096) }
-    ensures { (result.full ≤ 4096) × (take result.full buffer.new ≡ held (take full buffer.old) line.now) × Goes sink result.on }
+    ensures added { (result.full ≤ 4096) × (take result.full buffer.new ≡ held (take full buffer.old) line.now) × Goes sink result.on }
+    ensures owes { result.on ≡ true → Owes sink (W.contents out.old) (W.contents out.new) (take full buffer.old ++ line.now) (take result.full buffer.new) }
 {
     let n = line.len();
     if n <= 4096 - full {
@@ -47,7 +56,7 @@ pub(crate) fn add(sink: Sink, buffer: &mut [u8; 4096], full: usize, line: &[u8])
             on: true,
         };
     }
-    let on = write_out(sink, buffer, full);
+    let on = write_out(sink, out, buffer, full);
     store(buffer, 0, line);
     Added { full: n, on }
 }

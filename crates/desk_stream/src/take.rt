@@ -1,13 +1,15 @@
 // Packets taken from bytes that are there, and their lines collected.
-ghost use Rattle.std.specs.Prelude.{◌≡◌, ◌≤◌, length, take, drop};
+ghost use Rattle.std.specs.Prelude.{◌≡◌, ◌≤◌, ◌++◌, length, take, drop, true};
 ghost use Rattle.desk_report.specs.Desk.{stepped_desk, stepped_bytes, stepped_next};
 ghost use Rattle.desk_stream.specs.Held.{held};
 ghost use Rattle.desk_stream.specs.Ran.{Goes};
 ghost use Rattle.desk_stream.specs.Took.{Took, Collected};
+ghost use Rattle.desk_stream.specs.Known.{Owes, Tells};
 
 use crate::End;
 use crate::sink::{Sink, add};
 use desk_report::desk::{Desk, Next};
+use std::io::Write;
 
 // A packet was taken and its line added; whether to go on.
 #[derive(Clone, Copy)]
@@ -35,16 +37,24 @@ pub(crate) struct Ran {
 }
 
 // Takes the packet at the front of the input and adds its line.
-fn take_one(desk: Desk, sink: Sink, input: &[u8], buffer: &mut [u8; 4096], full: usize) -> One
+fn take_one<W: Write>(
+    desk: Desk,
+    sink: Sink,
+    out: &mut W,
+    input: &[u8],
+    buffer: &mut [u8; 4096],
+    full: usize,
+) -> One
     requires { full ≤ 4096 }
-    ensures { (result.desk ≡ stepped_desk desk input.now) × (result.next ≡ stepped_next input.now) × (result.full ≤ 4096) × (take result.full buffer.new ≡ held (take full buffer.old) (stepped_bytes desk input.now)) × Goes sink result.on }
+    ensures took { (result.desk ≡ stepped_desk desk input.now) × (result.next ≡ stepped_next input.now) × (result.full ≤ 4096) × (take result.full buffer.new ≡ held (take full buffer.old) (stepped_bytes desk input.now)) × Goes sink result.on }
+    ensures owes { result.on ≡ true → Owes sink (W.contents out.old) (W.contents out.new) (take full buffer.old ++ stepped_bytes desk input.now) (take result.full buffer.new) }
 {
     let mut line = [0u8; 128];
     let step = desk.step(input, &mut line);
     let n = step.written;
     let after = step.desk;
     let next = step.next;
-    let added = add(sink, buffer, full, &line[..n]);
+    let added = add(sink, out, buffer, full, &line[..n]);
     One {
         desk: after,
         next,
@@ -55,14 +65,21 @@ fn take_one(desk: Desk, sink: Sink, input: &[u8], buffer: &mut [u8; 4096], full:
 
 // Takes the packets that are whole. Their lines, from the first that is not written out, stand in the buffer; after a failed write none,
 // and the desk is as it was.
-pub(crate) fn take_all(desk: Desk, sink: Sink, input: &[u8], buffer: &mut [u8; 4096]) -> Ran
-    ensures { (result.used ≤ length input.now) × (result.full ≤ 4096) × Took desk sink input.now result.desk (drop result.used input.now) result.go × Collected desk input.now (take result.full buffer.new) result.go }
+pub(crate) fn take_all<W: Write>(
+    desk: Desk,
+    sink: Sink,
+    out: &mut W,
+    input: &[u8],
+    buffer: &mut [u8; 4096],
+) -> Ran
+    ensures took { (result.used ≤ length input.now) × (result.full ≤ 4096) × Took desk sink input.now result.desk (drop result.used input.now) result.go × Collected desk input.now (take result.full buffer.new) result.go }
+    ensures tells { Tells desk sink input.now (W.contents out.old) (W.contents out.new) (take result.full buffer.new) result.go }
 {
     let mut after = desk;
     let mut used: usize = 0;
     let mut full: usize = 0;
     while used < input.len() {
-        let one = take_one(after, sink, &input[used..], buffer, full);
+        let one = take_one(after, sink, out, &input[used..], buffer, full);
         after = one.desk;
         full = one.full;
         if !one.on {

@@ -2,58 +2,64 @@
 // run is the crate `desk_stream`'s; that it writes `follow` of the whole input is desk_report's theorem `run_is_follow`.
 #![tactic(auto)]
 
+ghost use Rattle.std.specs.Prelude.{◌≡◌, IfOk, IfSome, true};
+ghost use Rattle.std.specs.Io.KnownBytes.{Appends};
+ghost use Rattle.desk_report.specs.Text.{header};
+ghost use Rattle.desk_report.specs.Desk as spec;
+
 use desk_report::desk::Desk;
 use desk_stream::End;
 use desk_stream::sink::Sink;
-use libc::{STDERR_FILENO, STDOUT_FILENO};
+use std::env::{Env, FillError};
+use std::io::{self, Read, Write};
 
-fn unwritten() {
-    io::write_all(STDERR_FILENO, b"follow: standard output takes no more\n");
+fn unwritten(rt: &impl Eprint) -> io::Result<()> {
+    eprintln!(rt; "follow: standard output takes no more")
 }
 
 // Says why a run has ended before its input did.
-fn tell(end: End) {
+fn tell(rt: &impl Eprint, end: End) -> io::Result<()> {
     match end {
-        End::Read => {}
-        End::Unread => {
-            io::write_all(STDERR_FILENO, b"follow: standard input cannot be read\n");
-        }
-        End::Unwritten => {
-            unwritten();
-        }
+        End::Read => Ok(()),
+        End::Unread => eprintln!(rt; "follow: standard input cannot be read"),
+        End::Unwritten => unwritten(rt),
     }
 }
 
 // Writes the header, and says whether standard output took it.
-fn write_header() -> bool {
+fn write_header<W: Write>(out: &mut W) -> bool
+    ensures { result ≡ true → Appends (W.contents out.old) (W.contents out.new) header }
+{
     let mut line = [0u8; 128];
     let n = desk_report::line::write_header(&mut line);
-    io::write_all(STDOUT_FILENO, &line[..n])
+    out.write_all(&line[..n]).is_ok()
 }
 
-// The header, and then a line for each packet.
-fn follow() {
-    if !write_header() {
-        unwritten();
-        return;
+// The header, and then a line for each packet; why it has ended. Of a reader and a writer whose bytes are known, an input that was read to
+// its end has all its lines written.
+fn follow<R: Read, W: Write>(reader: &mut R, out: &mut W) -> End
+    ensures { result ≡ End.Read → IfSome (R.remaining reader.old) (λ s. Appends (W.contents out.old) (W.contents out.new) (spec.follow s)) }
+{
+    if !write_header(out) {
+        return End::Unwritten;
     }
-    let sink = Sink {
-        fd: STDOUT_FILENO,
-        needed: true,
-    };
-    let ended = desk_stream::run(Desk::new(true), sink);
-    let end = ended.end;
-    tell(end);
+    let sink = Sink { needed: true };
+    let ended = desk_stream::run(Desk::new(true), sink, reader, out);
+    ended.end
 }
 
-// The first argument is the program's own name.
-fn main() {
-    if 1 < os::arg_count() {
-        io::write_all(
-            STDERR_FILENO,
-            b"follow: takes no arguments; packets come on standard input\n",
-        );
-        return;
+// Whether there is an argument after the program's own name.
+fn has_arguments(rt: &impl Env) -> bool {
+    match rt.arg(1, &mut []) {
+        Err(FillError::NotPresent) => false,
+        _ => true,
     }
-    follow();
+}
+
+fn main(rt: HostRuntime) -> io::Result<()> {
+    if has_arguments(&rt) {
+        return eprintln!(rt; "follow: takes no arguments; packets come on standard input");
+    }
+    let end = follow(&mut rt.reader(), &mut io::writer(&rt));
+    tell(&rt, end)
 }

@@ -3,7 +3,7 @@
 // how many differ, and the first that does.
 #![tactic(auto)]
 
-ghost use Rattle.std.specs.Prelude.{◌≤◌};
+ghost use Rattle.std.specs.Prelude.{◌≤◌, length, IfOk};
 
 use abstract_policy::order::Order;
 use abstract_policy::outcome::Step;
@@ -11,7 +11,6 @@ use abstract_policy::state::{InternalState, Records, Registration};
 use interface_display::providers::Providers;
 use interface_display::{AvailableConsumer, OptionAvailableConsumer};
 use interface_records::group::Group;
-use libc::STDOUT_FILENO;
 use machine_service::{Service, Started, Stepped, start};
 use machine_state::memory::{
     DisconnectedNotice, Memory, Notices, ProviderNotice, UnconstrainedNotice,
@@ -19,6 +18,7 @@ use machine_state::memory::{
 use power_policy_interface::psu;
 use power_policy_service::config::{Config, OptionConfig};
 use power_policy_service::provider::PowerState;
+use std::io::{self, Read};
 
 // What was compared.
 #[derive(Clone, Copy)]
@@ -37,14 +37,29 @@ struct Two {
     b: u8,
 }
 
-fn read_two() -> Two {
+// Reads until the buffer is full or the input has ended, and returns how many bytes were read.
+fn read_full<R: Read>(input: &mut R, v: &mut [u8]) -> io::Result<usize>
+    ensures { IfOk result (λ n. n ≤ length v.new) }
+{
+    let mut done: usize = 0;
+    while done < v.len() {
+        let got = input.read(&mut v[done..])?;
+        if got == 0 {
+            break;
+        }
+        done += got;
+    }
+    Ok(done)
+}
+
+fn read_two<R: Read>(input: &mut R) -> io::Result<Two> {
     let mut bytes = [0u8; 2];
-    let got = io::read_full(libc::STDIN_FILENO, &mut bytes);
-    Two {
+    let got = read_full(input, &mut bytes)?;
+    Ok(Two {
         end: got == 0,
         a: at(&bytes, 0),
         b: at(&bytes, 1),
-    }
+    })
 }
 
 // A call that is turned back, which none of the stream is.
@@ -63,29 +78,30 @@ fn begun(service: Service) -> Stepped {
 }
 
 // A call by its letter, with the byte after it.
-fn step(service: Service, letter: u8, a: u8) -> Stepped {
+fn step<R: Read>(input: &mut R, service: Service, letter: u8, a: u8) -> io::Result<Stepped> {
     match letter {
-        83 => start_step(service, a),
-        79 => open_step(service, a),
-        65 => answer_step(service, a),
-        _ => refused(service),
+        83 => start_step(input, service, a),
+        79 => open_step(input, service, a),
+        65 => answer_step(input, service, a),
+        _ => Ok(refused(service)),
     }
 }
 
 // A start: 20 bytes more.
-fn start_step(service: Service, a: u8) -> Stepped {
-    match read_start(a) {
-        Started::Refused(_) => refused(service),
-        Started::Service(s) => begun(s),
+fn start_step<R: Read>(input: &mut R, service: Service, a: u8) -> io::Result<Stepped> {
+    match read_start(input, a)? {
+        Started::Refused(_) => Ok(refused(service)),
+        Started::Service(s) => Ok(begun(s)),
     }
 }
 
-fn read_start(a: u8) -> Started {
+fn read_start<R: Read>(input: &mut R, a: u8) -> io::Result<Started> {
     let mut b = [0u8; 20];
-    if io::read_full(libc::STDIN_FILENO, &mut b) < 20 {
-        return Started::Refused(20);
+    let got = read_full(input, &mut b)?;
+    if got < 20 {
+        return Ok(Started::Refused(20));
     }
-    start(config(a, &b), at(&b, 16) as u32, at(&b, 17) as u32)
+    Ok(start(config(a, &b), at(&b, 16) as u32, at(&b, 17) as u32))
 }
 
 fn config(a: u8, b: &[u8]) -> OptionConfig {
@@ -101,26 +117,26 @@ fn config(a: u8, b: &[u8]) -> OptionConfig {
 }
 
 // An event: 2 bytes more, and the records.
-fn open_step(service: Service, kind: u8) -> Stepped {
-    let more = read_two();
+fn open_step<R: Read>(input: &mut R, service: Service, kind: u8) -> io::Result<Stepped> {
+    let more = read_two(input)?;
     let registration = service.registration;
-    let read = read_records(registration);
+    let read = read_records(input, registration)?;
     if read.ok {
         let records = read.records;
-        return service.open(kind as u32, more.a as u32, more.b as u32, records);
+        return Ok(service.open(kind as u32, more.a as u32, more.b as u32, records));
     }
-    refused(service)
+    Ok(refused(service))
 }
 
 // An answer: the records.
-fn answer_step(service: Service, answer: u8) -> Stepped {
+fn answer_step<R: Read>(input: &mut R, service: Service, answer: u8) -> io::Result<Stepped> {
     let registration = service.registration;
-    let read = read_records(registration);
+    let read = read_records(input, registration)?;
     if read.ok {
         let records = read.records;
-        return service.answer(answer as u32, records);
+        return Ok(service.answer(answer as u32, records));
     }
-    refused(service)
+    Ok(refused(service))
 }
 
 // The records of all ports and chargers.
@@ -130,36 +146,40 @@ struct ReadRecords {
     records: Records,
 }
 
-fn read_records(registration: Registration) -> ReadRecords {
-    let p = read_psus(registration.ports);
-    let c = read_chargers(registration.chargers);
+fn read_records<R: Read>(input: &mut R, registration: Registration) -> io::Result<ReadRecords> {
+    let p = read_psus(input, registration.ports)?;
+    let c = read_chargers(input, registration.chargers)?;
     let psus = p.psus;
     let chargers = c.chargers;
-    ReadRecords {
+    Ok(ReadRecords {
         ok: p.ok && c.ok,
         records: Records { psus, chargers },
-    }
+    })
 }
 
-fn read_psus(ports: u8) -> interface_records::psu::Row {
+fn read_psus<R: Read>(input: &mut R, ports: u8) -> io::Result<interface_records::psu::Row> {
     let mut bytes = [0u8; 288];
     let n = least(ports, 16);
-    fill(&mut bytes, n * 18);
-    interface_records::psu::read_row(front(&bytes, n * 18), n)
+    fill(input, &mut bytes, n * 18)?;
+    Ok(interface_records::psu::read_row(front(&bytes, n * 18), n))
 }
 
-fn read_chargers(chargers: u8) -> interface_records::charger::Row {
+fn read_chargers<R: Read>(
+    input: &mut R,
+    chargers: u8,
+) -> io::Result<interface_records::charger::Row> {
     let mut bytes = [0u8; 56];
     let n = least(chargers, 8);
-    fill(&mut bytes, n * 7);
-    interface_records::charger::read_row(front(&bytes, n * 7), n)
+    fill(input, &mut bytes, n * 7)?;
+    Ok(interface_records::charger::read_row(front(&bytes, n * 7), n))
 }
 
 // Reads as many bytes to the front.
-fn fill(s: &mut [u8], n: usize) {
+fn fill<R: Read>(input: &mut R, s: &mut [u8], n: usize) -> io::Result<()> {
     if n <= s.len() {
-        io::read_full(libc::STDIN_FILENO, &mut s[..n]);
+        read_full(input, &mut s[..n])?;
     }
+    Ok(())
 }
 
 // As many bytes from the front.
@@ -181,23 +201,30 @@ fn least(count: u8, most: u8) -> usize
 
 // Whether what a call led to is what the stream has after it. A start has nothing after it. A charger's event leaves the orders and
 // notices of the event before, and has none of its own.
-fn outcome(letter: u8, kind: u8, stepped: Stepped) -> bool {
+fn outcome<R: Read>(input: &mut R, letter: u8, kind: u8, stepped: Stepped) -> io::Result<bool> {
     let step = stepped.step;
     let service = stepped.service;
     let memory = service.memory;
-    agrees(letter, kind, step, service.orders, memory)
+    agrees(input, letter, kind, step, service.orders, memory)
 }
 
-fn agrees(letter: u8, kind: u8, step: Step, orders: u8, memory: Memory) -> bool {
+fn agrees<R: Read>(
+    input: &mut R,
+    letter: u8,
+    kind: u8,
+    step: Step,
+    orders: u8,
+    memory: Memory,
+) -> io::Result<bool> {
     if letter == 83 {
-        return is_started(step);
+        return Ok(is_started(step));
     }
     if letter == 79 {
         if kind == 5 {
-            return compare(step, 0, without_notices(memory));
+            return compare(input, step, 0, without_notices(memory));
         }
     }
-    compare(step, orders, memory)
+    compare(input, step, orders, memory)
 }
 
 fn is_started(step: Step) -> bool {
@@ -216,17 +243,17 @@ fn without_notices(memory: Memory) -> Memory {
     }
 }
 
-fn compare(step: Step, orders: u8, memory: Memory) -> bool {
+fn compare<R: Read>(input: &mut R, step: Step, orders: u8, memory: Memory) -> io::Result<bool> {
     let mut v = [0u8; 64];
-    let got = io::read_full(libc::STDIN_FILENO, &mut v);
+    let got = read_full(input, &mut v)?;
     if got < 64 {
-        return false;
+        return Ok(false);
     }
     match step {
-        Step::Refused(_) => false,
-        Step::Order(order) => order_agrees(&v, order),
+        Step::Refused(_) => Ok(false),
+        Step::Order(order) => Ok(order_agrees(&v, order)),
         Step::Closed(answer, given) => {
-            given == orders && close_agrees(&v, answer, orders, memory)
+            Ok(given == orders && close_agrees(&v, answer, orders, memory))
         }
     }
 }
@@ -492,7 +519,7 @@ fn first_of(first: u64, differ: u64, agrees: bool, vectors: u64) -> u64 {
     vectors
 }
 
-fn count_all(service: Service) -> Count {
+fn count_all<R: Read>(input: &mut R, service: Service) -> io::Result<Count> {
     let mut s = service;
     let mut calls: u64 = 0;
     let mut events: u64 = 0;
@@ -500,51 +527,53 @@ fn count_all(service: Service) -> Count {
     let mut differ: u64 = 0;
     let mut first: u64 = 0;
     while calls < 0xffff_ffff {
-        let head = read_two();
+        let head = read_two(input)?;
         if head.end {
-            return Count {
+            return Ok(Count {
                 events,
                 vectors,
                 differ,
                 first,
-            };
+            });
         }
         let letter = head.a;
-        let stepped = step(s, letter, head.b);
+        let stepped = step(input, s, letter, head.b)?;
         s = stepped.service;
-        let agrees = outcome(letter, head.b, stepped);
+        let agrees = outcome(input, letter, head.b, stepped)?;
         events = plus(events, letter == 79);
         vectors = plus(vectors, letter != 83);
         first = first_of(first, differ, agrees, vectors);
         differ = plus(differ, !agrees);
         calls += 1;
     }
-    Count {
+    Ok(Count {
         events,
         vectors,
         differ,
         first,
-    }
+    })
 }
 
-fn say(c: Count) {
-    io::print_decimal(STDOUT_FILENO, c.events);
-    io::write_all(STDOUT_FILENO, b" events\n");
-    io::print_decimal(STDOUT_FILENO, c.vectors);
-    io::write_all(STDOUT_FILENO, b" vectors, ");
-    io::print_decimal(STDOUT_FILENO, c.differ);
-    io::write_all(STDOUT_FILENO, b" differ\n");
-    if 0 < c.differ {
-        io::write_all(STDOUT_FILENO, b"first: ");
-        io::print_decimal(STDOUT_FILENO, c.first);
-        io::write_all(STDOUT_FILENO, b"\n");
+fn say(rt: &impl Print, c: Count) -> io::Result<()> {
+    let events = c.events;
+    let vectors = c.vectors;
+    let differ = c.differ;
+    println!(rt; "{events} events")?;
+    println!(rt; "{vectors} vectors, {differ} differ")?;
+    if 0 < differ {
+        let first = c.first;
+        println!(rt; "first: {first}")?;
     }
+    Ok(())
 }
 
 // A service with no ports: the stream begins with a start.
-fn main() {
+fn main(rt: HostRuntime) -> io::Result<()> {
     match start(OptionConfig::Some(Config::default()), 0, 0) {
-        Started::Refused(_) => {}
-        Started::Service(s) => say(count_all(s)),
+        Started::Refused(_) => Ok(()),
+        Started::Service(s) => {
+            let count = count_all(&mut rt.reader(), s)?;
+            say(&rt, count)
+        }
     }
 }

@@ -3,26 +3,25 @@
 // desk_report's; that both are those of the whole input, however it is read, are its theorems `sheet_tells` and `sheet_shows_lem`.
 #![tactic(auto)]
 
-ghost use Rattle.std.specs.Prelude.{◌≡◌, List, ℕ};
+ghost use Rattle.std.specs.Prelude.{◌≡◌, List, ℕ, IfSome};
 ghost use Rattle.desk_report.specs.Page.{page_bytes, page_for};
-ghost use Rattle.desk_report.specs.Sheet.{sheet_page, sheet_run};
+ghost use Rattle.desk_report.specs.Sheet.{sheet_page, sheet_run, sheet_shows};
 
 use desk_report::desk::Desk;
 use desk_report::page;
 use desk_report::page::Page;
 use desk_stream::sink::Sink;
 use desk_stream::{End, Ended};
-use libc::{STDERR_FILENO, STDOUT_FILENO};
+use std::env::{Env, FillError};
+use std::io::{self, Read, Write};
 
 // Reads to the end. Lines that standard error does not take are dropped, and end nothing.
-fn read() -> Ended
-    ensures { ((l : List (List ℕ)) × (result.desk ≡ (sheet_run l).desk)) × (result.end ≡ End.Unwritten → ⊥) }
+fn read<R: Read, W: Write>(reader: &mut R, told: &mut W) -> Ended
+    ensures runs { ((l : List (List ℕ)) × (result.desk ≡ (sheet_run l).desk)) × (result.end ≡ End.Unwritten → ⊥) }
+    ensures shows { result.end ≡ End.Read → IfSome (R.remaining reader.old) (λ s. result.desk.follower ≡ sheet_shows s) }
 {
-    let sink = Sink {
-        fd: STDERR_FILENO,
-        needed: false,
-    };
-    desk_stream::run(Desk::new(false), sink)
+    let sink = Sink { needed: false };
+    desk_stream::run(Desk::new(false), sink, reader, told)
 }
 
 // The page of a desk's follower.
@@ -34,10 +33,12 @@ fn page_of(desk: Desk, out: &mut [u8; 246])
 }
 
 // Reads to the end, and gives the page of the bytes that were read.
-fn read_page(out: &mut [u8; 246]) -> End
-    ensures { (s : List ℕ) × (out.new ≡ sheet_page s) }
+fn read_page<R: Read, W: Write>(reader: &mut R, told: &mut W, out: &mut [u8; 246]) -> End
+    ensures page { (s : List ℕ) × (out.new ≡ sheet_page s) }
+    // Of a reader whose bytes are known, the page of them all.
+    ensures whole { result ≡ End.Read → IfSome (R.remaining reader.old) (λ s. out.new ≡ sheet_page s) }
 {
-    let ended = read();
+    let ended = read(reader, told);
     let desk = ended.desk;
     let end = ended.end;
     page_of(desk, out);
@@ -45,30 +46,33 @@ fn read_page(out: &mut [u8; 246]) -> End
 }
 
 // Writes the page, or says that standard output does not take it.
-fn write_page(out: &[u8; 246]) {
-    if !io::write_all(STDOUT_FILENO, out) {
-        io::write_all(STDERR_FILENO, b"sheet: standard output takes no more\n");
+fn write_page(rt: &(impl Print + Eprint), out: &[u8; 246]) -> io::Result<()> {
+    if io::writer(rt).write_all(out).is_err() {
+        return eprintln!(rt; "sheet: standard output takes no more");
     }
+    Ok(())
 }
 
 // Of an input that cannot be read to its end there is no page.
-fn sheet() {
+fn sheet(rt: &HostRuntime) -> io::Result<()> {
     let mut out = [0u8; 246];
-    if let End::Unread = read_page(&mut out) {
-        io::write_all(STDERR_FILENO, b"sheet: standard input cannot be read\n");
-        return;
+    if let End::Unread = read_page(&mut rt.reader(), &mut rt.stderr(), &mut out) {
+        return eprintln!(rt; "sheet: standard input cannot be read");
     }
-    write_page(&out);
+    write_page(rt, &out)
 }
 
-// The first argument is the program's own name.
-fn main() {
-    if 1 < os::arg_count() {
-        io::write_all(
-            STDERR_FILENO,
-            b"sheet: takes no arguments; packets come on standard input\n",
-        );
-        return;
+// Whether there is an argument after the program's own name.
+fn has_arguments(rt: &impl Env) -> bool {
+    match rt.arg(1, &mut []) {
+        Err(FillError::NotPresent) => false,
+        _ => true,
     }
-    sheet();
+}
+
+fn main(rt: HostRuntime) -> io::Result<()> {
+    if has_arguments(&rt) {
+        return eprintln!(rt; "sheet: takes no arguments; packets come on standard input");
+    }
+    sheet(&rt)
 }
