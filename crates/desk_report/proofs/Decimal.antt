@@ -1,11 +1,9 @@
 -- Decimal digits: stored from the last on, they stand at the end of a text, and what was before them stays.
 -- Assumes nothing.
 use mathlib.Core.Path.{◌≡◌, refl, ap, sym, ◌∙◌}
-use mathlib.Core.Bool.{Bool, true, false, cond}
-use mathlib.Core.List.{List, [], ◌∷◌, ◌++◌, append_assoc}
+use mathlib.Core.List.{List, ◌∷◌, ◌++◌}
 use Prim.Native.Nat.{ℕ, zero, suc, ◌+◌, ◌-◌, ◌/◌, ◌%◌, ◌≤◌, ◌<◌}
 use native.Mathlib.Omega.{arith}
-use lib.Dec.{ltb}
 use lib.ListN.{length, take, drop, set, replicate, length-set}
 use lib.Seq.{append_snoc, drop-cons, drop-set-lt, get_or-set_same, take-set-le, take-take}
 use borrow.Author.Tests.{lt-ltb, le-ltb}

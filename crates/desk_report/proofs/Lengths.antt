@@ -3,7 +3,7 @@
 use mathlib.Core.Path.{◌≡◌, refl, ap, sym, ◌∙◌}
 use mathlib.Core.Bool.{Bool, true, false, cond}
 use mathlib.Core.List.{List, [], ◌∷◌, ◌++◌}
-use Prim.Native.Nat.{ℕ, ◌+◌, ◌≤◌, ◌<◌}
+use Prim.Native.Nat.{ℕ, ◌+◌, ◌≤◌}
 use native.Mathlib.Omega.{arith}
 use lib.Dec.{eqb}
 use lib.ListN.{length, take, drop, length-append}
@@ -18,7 +18,7 @@ use Rattle.desk_follower.specs.declared.Follower.{Follower}
 use Rattle.desk_follower.specs.declared.OptionNumber.{OptionNumber}
 use Rattle.wire_framing.specs.Framing.{framed}
 use Rattle.wire_framing.specs.declared.Framed.{Framed}
-use Rattle.wire_framing.proofs.Frames.{Told, frame_told}
+use Rattle.wire_framing.proofs.Frames.{frame_told}
 use Rattle.desk_report.specs.Text.{number, refused}
 use Rattle.desk_report.specs.Line.{line_of, line_bytes, refused_bytes, spaced}
 use Rattle.desk_report.specs.Desk.{counted, line_taken, line_read, line_for, bytes_at, next_at, stepped_bytes, stepped_next, end_bytes}

@@ -5,11 +5,10 @@ use mathlib.Core.List.{List, [], ◌∷◌, ◌++◌}
 use Prim.Native.Nat.{ℕ, ◌+◌}
 use native.Mathlib.Nat.{add-zero}
 use native.Mathlib.Omega.{arith}
-use lib.ListN.{length}
 use lib.Seq.{sets}
 use Rattle.wire.proofs.Stores.{Put}
 use Rattle.abstract_page.specs.Text.{newline, left, right}
-use Rattle.abstract_page.specs.Page.{Figure, Entry, text, line}
+use Rattle.abstract_page.specs.Page.{Figure, text, line}
 use Rattle.abstract_page.proofs.Read.{line_length}
 
 pub stored_line : (o l : List ℕ) (at r : ℕ) (name columns : List ℕ) (f : Figure) → r ≡ at + 41 → l ≡ sets o at (left 20 name ++ (columns ++ (newline ∷ []))) → columns ≡ right 20 (text f)
