@@ -4,8 +4,8 @@
 Asks of every public function of a library that its contract fixes what it gives: no `requires`; an `ensures` that says what the result equals, if it
 has a result, or what each of its fields equals; and for every slice or array that it is lent by `&mut`, one that says what the bytes at exit equal. An equality
 counts only where it stands by itself or beside others: not behind a hypothesis, nor as one of two cases, nor under "there is", and not where its right
-side speaks of the result or of bytes at exit. Of a crate that calls the system (crates.txt: it lists libc) what the system gave is free, so that there an
-equality counts under "there is" too. Whether what they equal is the right thing is for a reader of the definitions. Programs are left out: they have no
+side speaks of the result or of bytes at exit. Of a crate that reads or writes (its code names std::io) what the system gave is free, so that there an
+equality counts under "there is" too; a reader or writer that it is lent, of a type parameter, is the system's. Whether what they equal is the right thing is for a reader of the definitions. Programs are left out: they have no
 public function.
 Then contracts that leave something open are tried, and each must be found: some small ones, and each function's own with a hypothesis put before every clause.
 Writes a line for each that is not as it should be, and last 'N passed, M failed'.
@@ -15,17 +15,19 @@ import re
 import sys
 
 ROOT = os.path.dirname(os.path.dirname(os.path.abspath(__file__)))
-HEAD = re.compile(r'^( *)pub (?:extern "C" )?fn (\w+)\(', re.M)
+HEAD = re.compile(r'^( *)pub (?:extern "C" )?fn (\w+)(?:<([^>]*)>)?\(', re.M)
 
 
 def contracts(text):
     """The name, arguments, result and clauses of each public function."""
     for m in HEAD.finditer(text):
-        head = text[m.end() : text.index("{\n", m.end())].rstrip()
+        head = re.sub(r"\n *//[^\n]*", "", text[m.end() : text.index("{\n", m.end())]).rstrip()
         signature, clauses = re.match(r"(.*?)((?:\n *(?:ensures|requires) [^\n]*)*)$", head, re.S).groups()
         arguments, result = re.match(r"(.*)\)(?: -> (.*))?$", signature, re.S).groups()
         if result == "Self":
             result = re.findall(r"^impl (\w+) \{", text[: m.start()], re.M)[-1]
+        for parameter in re.findall(r"(\w+):", m.group(3) or ""):
+            arguments = re.sub(r"\w+: &mut %s\b,?" % parameter, "", arguments)
         yield m.group(2), arguments, result, clauses
 
 
@@ -131,6 +133,9 @@ PLANTED = [
 # The same of a crate that calls the system.
 PLANTED_SYSTEM = [
     ("pub fn f(n: u8) -> u8\n    ensures { ((w : Seen) × (result ≡ after n w)) }\n", ""),
+    ("pub fn f<R: Read>(n: u8, from: &mut R) -> u8\n    ensures value { (w : Seen) × (result ≡ after n w) }\n    // all\n    ensures read { Reads from.new }\n", ""),
+    ("pub fn f<R: Read>(n: u8, from: &mut R, out: &mut [u8]) -> u8\n    ensures { (w : Seen) × (result ≡ after n w) }\n", "out is at exit"),
+    ("pub fn f<R: Read>(n: u8, from: &mut R) -> u8\n    ensures { result < 8 }\n", "the result"),
     ("pub fn f(n: u8) -> u8\n    ensures { ((w : Seen) × (n < 4 → result ≡ after n w)) }\n", "the result"),
     ("pub fn f(n: u8) -> u8\n    ensures { ((w : Seen) × (w.bytes ≡ n)) }\n", "the result"),
 ]
@@ -147,9 +152,13 @@ def planted():
 
 
 def of_system():
-    """The crates that call the system."""
-    with open(os.path.join(ROOT, "crates.txt"), encoding="utf-8") as f:
-        return {line.split(":")[0] for line in f if not line.startswith("#") and "libc" in line.split()}
+    """The crates that read or write."""
+    found = set()
+    for folder, _, names in os.walk(os.path.join(ROOT, "crates")):
+        for name in names:
+            if name.endswith(".rt") and "std::io" in open(os.path.join(folder, name), encoding="utf-8").read():
+                found.add(os.path.relpath(folder, os.path.join(ROOT, "crates")).split(os.sep)[0])
+    return found
 
 
 def main():

@@ -50,7 +50,7 @@ def functions(crate):
                 around = [m.group(1)]
             elif line.startswith("}"):
                 around = []
-            m = re.match(r' *(pub |pub\(crate\) )?(?:extern "C" )?fn (\w+)\(', line)
+            m = re.match(r' *(pub |pub\(crate\) )?(?:extern "C" )?fn (\w+)(?:<[^>]*>)?\(', line)
             if m:
                 found["::".join(module + around + [m.group(2)])] = {None: "private", "pub ": "", "pub(crate) ": "in the crate"}[m.group(1)]
     return found
