@@ -1,8 +1,8 @@
 -- What bytes that are an image are read as; a lost follower's image with another floor or with a picture.
 -- Assumes nothing.
 use mathlib.Core.Path.{◌≡◌, refl, ap, sym, ◌∙◌}
-use mathlib.Core.Bool.{Bool, true, false}
-use mathlib.Core.List.{List, [], ◌∷◌, ◌++◌}
+use mathlib.Core.Bool.{true, false}
+use mathlib.Core.List.{List, ◌∷◌, ◌++◌}
 use mathlib.Core.Option.{Option, none, some}
 use Prim.Native.Nat.{ℕ, zero, suc, ◌+◌, ◌*◌, ◌%◌}
 use native.Mathlib.Omega.{arith}
@@ -10,7 +10,6 @@ use lib.ListN.{length, drop, replicate, replicate-append-replicate}
 use lib.Seq.{sets}
 use Rattle.interface_records.specs.Row.{written}
 use Rattle.interface_display.specs.declared.Display.{Display}
-use Rattle.interface_display.specs.declared.packet.EventPacket.{EventPacket}
 use Rattle.interface_display.specs.declared.packet.Picture.{Picture}
 use Rattle.desk_follower.specs.Held as held
 use Rattle.desk_follower.specs.Held.{nothing, held_for}
@@ -23,7 +22,6 @@ use Rattle.bytes_groups.specs.Quad.{quad_bytes, number_quad}
 use Rattle.bytes_follower_image.specs.Slot.{slot_bytes}
 use Rattle.bytes_follower_image.specs.Held.{slots, held_bytes, held_from}
 use Rattle.bytes_follower_image.specs.Image.{lost_bytes, showing_bytes, follower_in, follower_read, follower_from, shown_of, shown_read, ImageOf, shown_head}
-use Rattle.bytes_follower_image.specs.declared.ReadFollower.{ReadFollower}
 use Rattle.bytes_follower_image.specs.declared.ReadShown.{ReadShown}
 use Rattle.bytes_follower_image.proofs.OneImage.{fits, lost_back, held_back, follower_length_lem, follower_read_write}
 

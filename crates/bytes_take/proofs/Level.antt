@@ -4,25 +4,22 @@ use mathlib.Core.Path.{◌≡◌, refl, ap, sym, ◌∙◌}
 use mathlib.Core.Bool.{Bool, true, false, cond}
 use mathlib.Core.Logic.{⊎_elim}
 use Prim.Native.Nat.{ℕ, zero, suc, ◌+◌, ◌-◌, ◌%◌, ◌≤◌, ◌<◌}
-use native.Mathlib.Nat.{max-eq_right}
 use native.Mathlib.Omega.{arith}
-use lib.Dec.{eqb, leb}
-use lib.ListN.{length, get_or, set, replicate}
-use lib.Seq.{get_or-set_same, set-set, set-get_or}
-use borrow.Author.Tests.{eq-eqb, ne_eqb, le-leb, lt-leb, le-ltb}
-use Rattle.interface_display.specs.Notices.{all_applied}
+use lib.Dec.{leb}
+use lib.ListN.{get_or, set}
+use lib.Seq.{set-get_or}
+use borrow.Author.Tests.{ne_eqb, le-leb}
 use Rattle.interface_display.specs.declared.Display.{Display}
 use Rattle.interface_display.specs.declared.packet.EventPacket.{EventPacket}
 use Rattle.interface_display.specs.declared.packet.Packet.{Packet}
 use Rattle.interface_display.specs.declared.packet.Picture.{Picture}
-use Rattle.desk_follower.specs.Held.{none, nothing, packet_at, put, held_for, holds, placed, dropped, greatest, kept_above, above}
-use Rattle.desk_follower.specs.Follower.{lost, showing, at, in_turn, settled, taken, taken_at}
+use Rattle.desk_follower.specs.Held.{none, nothing, packet_at, put, holds, greatest, kept_above, above}
+use Rattle.desk_follower.specs.Follower.{lost, showing, at, taken_at}
 use Rattle.desk_follower.specs.WellFormed.{Within}
-use Rattle.desk_follower.specs.declared.Follower.{Follower}
 use Rattle.desk_follower.specs.declared.Shown.{Shown}
 use Rattle.desk_follower.specs.declared.held.Held.{Held}
-use Rattle.desk_follower.proofs.Kept.{mod8, none_at, nothing_within}
-use Rattle.desk_follower.proofs.Laws.{event_new, event_beyond, picture_new, greatest_base, greatest_le}
+use Rattle.desk_follower.proofs.Kept.{none_at}
+use Rattle.desk_follower.proofs.Laws.{event_beyond, greatest_base, greatest_le}
 use Rattle.bytes_take.specs.Turned.{turned, dropped_to, outcome}
 use Rattle.bytes_take.specs.declared.turn.OptionPicture.{OptionPicture}
 

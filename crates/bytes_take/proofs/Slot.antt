@@ -1,6 +1,6 @@
 -- A packet in its slot: the slots' first bytes say what is held, and a packet stored there is the packet held at its place.
 -- Assumes nothing.
-use mathlib.Core.Path.{◌≡◌, refl, ap, sym, subst, ◌∙◌}
+use mathlib.Core.Path.{◌≡◌, refl, ap, sym, ◌∙◌}
 use mathlib.Core.Bool.{Bool, true, false, cond}
 use mathlib.Core.List.{List, [], ◌∷◌, ◌++◌}
 use mathlib.Core.Logic.{◌⊎◌, inl, inr}
@@ -8,7 +8,7 @@ use Prim.Native.Nat.{ℕ, zero, suc, ◌+◌, ◌*◌, ◌-◌, ◌%◌, ◌≤�
 use native.Mathlib.Nat.{suc-mul}
 use native.Mathlib.Omega.{arith}
 use lib.Dec.{eqb}
-use lib.ListN.{length, get_or, set, drop, replicate, length-append, get_or-append}
+use lib.ListN.{length, get_or, set, drop, length-append, get_or-append}
 use lib.Seq.{sets, sets-eq, drop_at, get_or-append-add, get_or-set_same, get_or-set_other, ext_get_or}
 use borrow.Author.Tests.{eqb-true, eqb-false, eq-eqb, ne_eqb, leb-true}
 use Rattle.power_policy_interface.specs.Limits.{largest}
@@ -19,7 +19,7 @@ use Rattle.interface_display.specs.declared.packet.Picture.{Picture}
 use Rattle.wire.specs.WellFormed.{event_fits}
 use Rattle.desk_follower.specs.Held as held
 use Rattle.desk_follower.specs.Held.{nothing, packet_at, held_for, placed, none_held}
-use Rattle.desk_follower.specs.Follower.{showing, at, in_turn, settled, taken_at}
+use Rattle.desk_follower.specs.Follower.{showing, in_turn, settled, taken_at}
 use Rattle.desk_follower.specs.declared.Shown.{Shown}
 use Rattle.desk_follower.specs.declared.held.Held.{Held}
 use Rattle.desk_follower.proofs.Kept.{mod8, none_at}
@@ -30,7 +30,7 @@ use Rattle.bytes_follower_image.specs.Fits.{image_fits}
 use Rattle.bytes_follower_image.specs.Image.{showing_bytes, follower_bytes, ImageOf, shown_head}
 use Rattle.bytes_follower_image.proofs.Notices.{and_left, and_right}
 use Rattle.bytes_follower_image.proofs.Slots.{parts, Told, slot_length}
-use Rattle.bytes_follower_image.proofs.Rows.{row_length, owner, owned}
+use Rattle.bytes_follower_image.proofs.Rows.{owner, owned}
 use Rattle.bytes_follower_image.proofs.OneImage.{Fits, fits, held_told, held_next_lem}
 use Rattle.bytes_take.specs.Taken.{none_in}
 

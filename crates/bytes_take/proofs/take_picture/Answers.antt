@@ -1,0 +1,19 @@
+-- An old picture changes nothing; a new one is shown, and what is held above it follows.
+use mathlib.Core.Path.{sym, ap, ◌∙◌}
+use Rattle.desk_follower.specs.Follower.{showing}
+use Rattle.desk_follower.proofs.Laws.{picture_old}
+use Rattle.bytes_follower_image.specs.Image.{follower_bytes}
+use Rattle.bytes_follower_image.proofs.OneImage.{fits}
+use Rattle.bytes_take.proofs.Turns.{picture_turned}
+use Rattle.bytes_take.proofs.take_picture.Goals as goal
+
+pub returns-then-p-s : goal.returns-then-p-s
+returns-then-p-s c = λ h i.
+    let x = c.args in
+    i.bytes ∙ sym (ap follower_bytes (picture_old x.s h x.p c.if-p-s.true))
+
+pub returns : goal.returns
+returns c = λ h i.
+    let x = c.args in
+    c.advance.ensures h i
+    ∙ sym (ap follower_bytes (picture_turned x.s h (fits (showing x.s h) i.fits).formed.1 x.p c.if-p-s.false))
