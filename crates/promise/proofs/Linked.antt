@@ -137,16 +137,19 @@ module _ (s : Service) (good : Good s) (demands : run.Demands s) (calls : List B
   -- what is among the takes, by bytes and by packets
 
   met : (y : List ℕ) (p : Packet) (l : List (List ℕ)) → read_packet y ≡ ReadPacket.Packet p → In functions image g calls y l → Met p l
+  met y p [] r x = elim x [ ]
   met y p (z ∷ l) r (inl e) = inl (ap read_packet e ∙ r)
   met y p (z ∷ l) r (inr i) = inr (met y p l r i)
 
   among : (p : Packet) (l : List (List ℕ)) → Met p l → (y : List ℕ) × In functions image g calls y l × (read_packet y ≡ ReadPacket.Packet p)
+  among p [] x = elim x [ ]
   among p (y ∷ l) (inl e) = (y, inl refl, e)
   among p (y ∷ l) (inr m) =
       let z = among p l m in
       (z.0, inr z.1, z.2)
 
   hands : (y : List ℕ) (l : List (List ℕ)) → AllHanded functions image g calls l → In functions image g calls y l → Handed functions image g calls y
+  hands y [] q x = elim x [ ]
   hands y (z ∷ l) q (inl e) = subst (λ (b : List ℕ). Handed functions image g calls b) e q.0
   hands y (z ∷ l) q (inr i) = hands y l q.1 i
 

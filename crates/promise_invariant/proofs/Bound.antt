@@ -128,14 +128,14 @@ nothing_told_lem n h =
     provider (ProviderNotice.Disconnected p) e = absurd (apart e)
     provider (ProviderNotice.Connected p c) e = absurd (apart e)
 
-stage_fits_lem : (chargers : ℕ) (s : Stage) (b : Bool) → stage_fits chargers s && b ≡ true → machine.stage_fits chargers s
+stage_fits_lem : (chargers : ℕ) (s : Stage) (b : Bool) → stage_fits chargers s && b ≡ true → machine.StageFits chargers s
 stage_fits_lem chargers Stage.Psu b e = tt
 stage_fits_lem chargers Stage.Settling b e = tt
 stage_fits_lem chargers (Stage.Readying i) b e = ltb-true i chargers (and_left (ltb i chargers) b e)
 stage_fits_lem chargers (Stage.Initializing i) b e = ltb-true i chargers (and_left (ltb i chargers) b e)
 stage_fits_lem chargers (Stage.Attaching i) b e = ltb-true i chargers (and_left (ltb i chargers) b e)
 
-leaver_fits_lem : (chargers : ℕ) (l : Leaver) (b : Bool) → leaver_fits chargers l && b ≡ true → machine.leaver_fits chargers l
+leaver_fits_lem : (chargers : ℕ) (l : Leaver) (b : Bool) → leaver_fits chargers l && b ≡ true → machine.LeaverFits chargers l
 leaver_fits_lem chargers Leaver.Psu b e = tt
 leaver_fits_lem chargers (Leaver.Charger i) b e = ltb-true i chargers (and_left (ltb i chargers) b e)
 

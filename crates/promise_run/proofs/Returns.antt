@@ -195,12 +195,12 @@ module _ (g : Registration) (number k : ℕ) where
   picture_at (Phase.Providing p d) m held before c = refl
 
   -- the open order
-  order_at : (p : Phase) (m : Memory) → order_of p ≡ order_at (stand_of k (stands_at g p m))
-  order_at (Phase.Closed a) m = refl
-  order_at (Phase.Leaving i p f) m = refl
-  order_at (Phase.Switching l old f new) m = refl
-  order_at (Phase.Connecting s new) m = refl
-  order_at (Phase.Providing p d) m = refl
+  open_order : (p : Phase) (m : Memory) → order_of p ≡ order_at (stand_of k (stands_at g p m))
+  open_order (Phase.Closed a) m = refl
+  open_order (Phase.Leaving i p f) m = refl
+  open_order (Phase.Switching l old f new) m = refl
+  open_order (Phase.Connecting s new) m = refl
+  open_order (Phase.Providing p d) m = refl
 
 pub run_equal : (l : List Call) (s : Service) (held : Last) (before : InternalState) → CallsFit l → Runs s held before → Equal (services s l) (policies (policy_of s held) l)
 run_equal [] s held before cf x = record {
@@ -210,7 +210,7 @@ run_equal [] s held before cf x = record {
   answer = λ e. ap (λ (y : Last). y.answer) (last (is-closed e));
   orders = λ e. ap (λ (y : Last). y.orders) (last (is-closed e));
   notices = λ e. ap (λ (y : Last). y.notices) (last (is-closed e));
-  order = order_at s.registration s.number s.orders s.phase s.memory;
+  order = open_order s.registration s.number s.orders s.phase s.memory;
   stand = refl;
   opening = λ kind device detail r.
       open_returns s.registration s.number s.orders kind device detail r s.phase s.memory held (λ o. ap (λ (y : Last). y.state) (last o));

@@ -210,6 +210,7 @@ module _ (H : ℕ → Display) where
       subst Tells (sym (w.2 ∙ ap Packet.Picture q.1)) (picture_at s.registration s.number s.orders s.phase s.memory held before x.state q.0 h)
 
   pub wrote_tells : (l : List Call) (s : Service) (held : Last) (before : InternalState) (p : Packet) → CallsFit l → Runs s held before → Agrees (policy_of s held) l → Before s before → HasSent s l p → Tells p
+  wrote_tells [] s held before p cf x a b w = elim w [ ]
   wrote_tells (c ∷ l) s held before p cf x a b w =
       ⊎_elim (λ z. writes_tells s held before c p x (now (policy_of s held) (c ∷ l) a) b z)
       (λ z.
@@ -274,6 +275,7 @@ module _ (K : ℕ → EventPacket) where
       subst IsOne (sym (w.2 ∙ ap Packet.Event q.1)) (sym (k s.number a ∙ now_packet s (write_packet ∷ l) q.0))
 
   pub wrote_one : (l : List Call) (s : Service) (held : Last) (before : InternalState) (p : Packet) → CallsFit l → Runs s held before → Keeps s l → HasSent s l p → IsOne p
+  wrote_one [] s held before p cf x k w = elim w [ ]
   wrote_one (c ∷ l) s held before p cf x k w =
       ⊎_elim (λ z. writes_one s c l p k z)
       (λ z.
@@ -377,6 +379,7 @@ writes_fits s held before write_picture p x w =
     (picture_fits_at s.registration s.number s.orders s.phase s.memory held before x.state q.0 x.number)
 
 pub wrote_fits : (l : List Call) (s : Service) (held : Last) (before : InternalState) (p : Packet) → CallsFit l → Runs s held before → HasSent s l p → well_formed p ≡ true
+wrote_fits [] s held before p cf x w = elim w [ ]
 wrote_fits (c ∷ l) s held before p cf x w =
     ⊎_elim (λ z. writes_fits s held before c p x z)
     (λ z. let t = goes s held before c cf.0 x in wrote_fits l (after_call s c) t.heldₜ t.beforeₜ p cf.1 t.runs z)
@@ -400,6 +403,7 @@ writes_number s held write_picture p w = ap number_in (w.2 ∙ ap Packet.Picture
 
 pub wrote_closed : (l : List Call) (s : Service) (held : Last) (before : InternalState) (p : Packet) → CallsFit l → Runs s held before → HasSent s l p →
     number_in p ≤ (policies (policy_of s held) l).number
+wrote_closed [] s held before p cf x w = elim w [ ]
 wrote_closed (c ∷ l) s held before p cf x w =
     ⊎_elim
     (λ z. let e : number_in p ≡ s.number = writes_number s held c p z in omega (arith, e, grows (c ∷ l) s held before cf x))
