@@ -9,7 +9,7 @@ use native.Mathlib.Nat.{zero-add}
 use native.Mathlib.Omega.{arith}
 use lib.Dec.{leb}
 use lib.ListN.{length, take, drop, length-append, length-drop, drop_of_length-le}
-use lib.Seq.{sets, sets-eq, take_at, take_all, length-take-le, drop-drop}
+use lib.Seq.{sets, sets-eq, take_at, take_all as take_every, length-take-le, drop-drop}
 use borrow.Author.Tests.{le-leb, lt-leb}
 use Rattle.wire_framing.specs.Framing.{framed}
 use Rattle.desk_report.specs.Buffer.{stored_at}
@@ -70,7 +70,7 @@ module _
             → (k : ℕ) × (length (drop u s) ≤ suc k) × (held_next (holding k) e (drop u s) c n ≡ held_all d₀ s)
         counted zero l t = absurd (omega (arith, length-drop u s))
         counted (suc k) l t =
-            let z : take (length s - u) (drop u s) ≡ drop u s = take_all (length s - u) (drop u s) (omega (arith, length-drop u s)) in
+            let z : take (length s - u) (drop u s) ≡ drop u s = take_every (length s - u) (drop u s) (omega (arith, length-drop u s)) in
             (k, l, rw (p, q, r, z) t)
 
     told : (m : Next) → n ≡ m → held_next (holding step.0) e (drop u s) c m ≡ held_all d₀ s

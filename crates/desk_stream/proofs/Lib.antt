@@ -1,3 +1,4 @@
 pub mod Holds
+pub mod Known
 pub mod Moves
 pub mod Takes

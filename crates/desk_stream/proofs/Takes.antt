@@ -6,7 +6,7 @@ use mathlib.Core.Logic.{inl, inr, ⊎_elim}
 use Prim.Native.Nat.{ℕ, ◌+◌, ◌-◌, ◌≤◌}
 use native.Mathlib.Omega.{arith}
 use lib.ListN.{length, take, drop, length-drop, drop_of_length-le}
-use lib.Seq.{slice, take_all, take-add, drop-drop, length-slice}
+use lib.Seq.{slice, take_all as take_every, take-add, drop-drop, length-slice}
 use Rattle.desk_report.specs.Desk.{stepped_desk, stepped_next}
 use Rattle.desk_report.specs.Reads.{Turn, begin, go_on, stop, after_take, take_all, read_on, reads}
 use Rattle.desk_report.specs.declared.desk.Desk.{Desk}
@@ -27,7 +27,7 @@ module _
     (p : e ≡ stepped_desk d (take (length s - u) (drop u s))) (q : n ≡ stepped_next (take (length s - u) (drop u s)))
   where
     rest : take (length s - u) (drop u s) ≡ drop u s
-    rest = take_all (length s - u) (drop u s) (omega (arith, length-drop u s))
+    rest = take_every (length s - u) (drop u s) (omega (arith, length-drop u s))
 
     step : left (take_all d₀ s) ≡ left (after_take take_all e (drop u s) n)
     step =
@@ -70,7 +70,7 @@ read_after d e k s x have n kept (Go.Off End.Read) t p =
 read_after d e k s x have n kept (Go.Off End.Unread) t p = absurd t
 read_after d e k s x have n kept (Go.Off End.Unwritten) t p = (t.0, inl t.1)
 
-reads_snoc : (t : Turn) (l : List (List ℕ)) (c : List ℕ) → reads t (l ++ (c ∷ [])) ≡ read_on (reads t l) c
+pub reads_snoc : (t : Turn) (l : List (List ℕ)) (c : List ℕ) → reads t (l ++ (c ∷ [])) ≡ read_on (reads t l) c
 reads_snoc t [] c = refl
 reads_snoc t (s ∷ l) c = reads_snoc (read_on t s) l c
 

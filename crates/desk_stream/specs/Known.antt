@@ -1,7 +1,7 @@
 -- What a run did to a reader and a writer whose bytes are known, as std's KnownBytes has it: of one whose are not, nothing is said.
-use Rattle.std.specs.Prelude.{ℕ, ◌≡◌, true, List, [], ◌++◌, ◌⊎◌, flatten}
+use Rattle.std.specs.Prelude.{ℕ, ◌≡◌, true, List, [], ◌++◌, ◌⊎◌, Option}
+use mathlib.Core.List.{flatten}
 use Rattle.std.specs.Io.KnownBytes.{Appends, Consumes, IsAtEnd}
-use Rattle.core.specs.declared.option.Option.{Option}
 use Rattle.desk_report.specs.Desk.{end_bytes}
 use Rattle.desk_report.specs.Reads.{begin, go_on, stop, take_all, reads, ended}
 use Rattle.desk_report.specs.declared.desk.Desk.{Desk}
