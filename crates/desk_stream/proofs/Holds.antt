@@ -37,19 +37,25 @@ module _ (o line l : List ℕ) (full : ℕ) (size : length o ≡ 4096) (h : full
   before : length (take full o) ≡ full
   before = length-take-le full o (omega arith)
 
-  pub with_room : full + length line ≤ 4096 → l ≡ stored_at o full line → take (full + length line) l ≡ held (take full o) line
-  unfolding held
-  with_room k e =
+  pub after_room : full + length line ≤ 4096 → l ≡ stored_at o full line → take (full + length line) l ≡ take full o ++ line
+  after_room k e =
       let n : full + length line ≤ length o = omega arith in
       let s : l ≡ sets o full line = rw (le-leb (full + length line) (length o) n) at e in
-      rw (before, le-leb (full + length line) 4096 k) (stored o line l full n s)
+      stored o line l full n s
+
+  pub with_room : full + length line ≤ 4096 → l ≡ stored_at o full line → take (full + length line) l ≡ held (take full o) line
+  unfolding held
+  with_room k e = rw (before, le-leb (full + length line) 4096 k) (after_room k e)
+
+  pub after_full : length line ≤ 4096 → l ≡ stored_at o 0 line → take (length line) l ≡ line
+  after_full m e =
+      let n : 0 + length line ≤ length o = omega arith in
+      let s : l ≡ sets o 0 line = rw (le-leb (0 + length line) (length o) n) at e in
+      stored_front o line l (omega arith) s
 
   pub without_room : 4096 < full + length line → length line ≤ 4096 → l ≡ stored_at o 0 line → take (length line) l ≡ held (take full o) line
   unfolding held
-  without_room k m e =
-      let n : 0 + length line ≤ length o = omega arith in
-      let s : l ≡ sets o 0 line = rw (le-leb (0 + length line) (length o) n) at e in
-      rw (before, lt-leb (full + length line) 4096 k) (stored_front o line l (omega arith) s)
+  without_room k m e = rw (before, lt-leb (full + length line) 4096 k) (after_full m e)
 
 -- after some turns of `take_all` from the desk d₀: the desk d, the place u of the bytes s, the bytes b in the buffer
 abbrev pub Holds : Desk → List ℕ → Desk → ℕ → List ℕ → Type 0
