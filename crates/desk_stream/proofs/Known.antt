@@ -2,23 +2,23 @@
 -- buffer and what the packets that are left will add are together the lines of all.
 -- Assumes nothing.
 use mathlib.Core.Path.{◌≡◌, refl, ap, sym, ◌∙◌}
-use mathlib.Core.Bool.{Bool, true, false, cond}
+use mathlib.Core.Bool.{Bool, true, false}
 use mathlib.Core.List.{List, [], ◌∷◌, ◌++◌, flatten, append-nil, append_assoc}
-use mathlib.Core.Logic.{◌⊎◌, inl, inr, ⊎_elim}
-use Prim.Native.Nat.{ℕ, ◌+◌, ◌-◌, ◌≤◌, ◌<◌}
+use mathlib.Core.Logic.{inl, inr, ⊎_elim}
+use Prim.Native.Nat.{ℕ, ◌+◌, ◌-◌, ◌≤◌}
 use native.Mathlib.Omega.{arith}
 use lib.ListN.{length, take, drop, length-drop, drop_of_length-le}
 use lib.Seq.{take_all as take_every, take-add, drop-drop}
 use Rattle.std.specs.Prelude.{Option, None, Some, IfSome}
-use Rattle.std.specs.Io.KnownBytes.{Appends, Consumes, Keeps, IsAtEnd}
+use Rattle.std.specs.Io.KnownBytes.{Consumes, Keeps, IsAtEnd}
 use Rattle.std.proofs.KnownBytes.{Appends-nil, Appends-trans, Consumes-nil, Consumes-trans}
 use Rattle.desk_report.specs.Desk.{stepped_desk, stepped_bytes, stepped_next, end_bytes, output_of, desk_of}
-use Rattle.desk_report.specs.Reads.{Turn, begin, go_on, stop, after_take, take_all, read_on, reads, ended}
+use Rattle.desk_report.specs.Reads.{Turn, begin, go_on, stop, after_take, take_all, reads, ended}
 use Rattle.desk_report.specs.declared.desk.Desk.{Desk}
 use Rattle.desk_report.specs.declared.desk.Next.{Next}
 use Rattle.desk_report.proofs.Whole.{take_step, whole}
 use Rattle.desk_stream.specs.Took.{left, Took}
-use Rattle.desk_stream.specs.Known.{Wrote, Owes, TellsAt, Tells, PassesOn, Stops, Finishes, Fails, PassesAt, Passes, EndsOver}
+use Rattle.desk_stream.specs.Known.{Wrote, Owes, Tells, PassesOn, Stops, Finishes, Fails, PassesAt, Passes, EndsOver}
 use Rattle.desk_stream.specs.declared.End.{End}
 use Rattle.desk_stream.specs.declared.sink.Sink.{Sink}
 use Rattle.desk_stream.specs.declared.take.Go.{Go}
@@ -192,23 +192,21 @@ module _ (d₀ d : Desk) (k : Sink) (r r' r'' w w' w'' : Option (List ℕ)) (b :
       let t = o.2 in
       let z : ended (reads (begin d₀ []) o.0) ≡ (reads (begin d₀ []) o.0).written ++ end_bytes d b =
       rw (ap (λ (x : Turn). x.more) t, ap (λ (x : Turn). x.desk) t, ap (λ (x : Turn). x.kept) t) refl
-      in
-      (
+      in (
         o.0,
         rw (append-nil (flatten o.0)) at (Consumes-trans r r' r'' (flatten o.0) [] o.1 p.0),
         ap (λ (x : Turn). x.desk) t ∙ sym p.2,
         λ y. p.1,
-        rw z (λ n. Appends-trans w w' w'' (reads (begin d₀ []) o.0).written (end_bytes d b) (o.3 n) (p.3 n))
+        rw z (λ n. Appends-trans w w' w'' (reads (begin d₀ []) o.0).written (end_bytes d b) (o.3 n) (p.3 n)),
       )
 
   over_fail : (e : Desk) → Fails d k r' r'' w' w'' e → EndsOver d₀ k r r'' w w'' e End.Unread
-  over_fail e p =
-      (
-        o.0,
-        rw (append-nil (flatten o.0)) at (Consumes-trans r r' r'' (flatten o.0) [] o.1 p.0),
-        ap (λ (x : Turn). x.desk) o.2 ∙ sym p.1,
-        λ n. rw (append-nil (reads (begin d₀ []) o.0).written) at (Appends-trans w w' w'' (reads (begin d₀ []) o.0).written [] (o.3 n) (p.2 n))
-      )
+  over_fail e p = (
+    o.0,
+    rw (append-nil (flatten o.0)) at (Consumes-trans r r' r'' (flatten o.0) [] o.1 p.0),
+    ap (λ (x : Turn). x.desk) o.2 ∙ sym p.1,
+    λ n. rw (append-nil (reads (begin d₀ []) o.0).written) at (Appends-trans w w' w'' (reads (begin d₀ []) o.0).written [] (o.3 n) (p.2 n)),
+  )
 
   pub over_off : (e : Desk) (x : End) → PassesAt d k b r' r'' w' w'' e x → EndsOver d₀ k r r'' w w'' e x
   over_off e End.Read p = ⊎_elim (over_finish e) (over_stop e) p

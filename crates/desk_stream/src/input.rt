@@ -1,5 +1,6 @@
 // Bytes read from standard input, and those kept of a packet that is not whole.
-ghost use Rattle.std.specs.Prelude.{◌≡◌, ◌-◌, ◌≤◌, ◌<◌, length, take, []};
+ghost use Rattle.std.specs.Prelude.{◌≡◌, ◌+◌, ◌-◌, ◌≤◌, ◌<◌, length, take, drop, [], IfOk};
+ghost use Rattle.std.specs.Io.KnownBytes.{ReadConsumes};
 ghost use Rattle.desk_stream.specs.Ran.{Ends};
 ghost use Rattle.desk_stream.specs.Took.{Took, Read, moved};
 ghost use Rattle.desk_stream.specs.Known.{Wrote, Tells, Passes};
@@ -9,7 +10,7 @@ use crate::End;
 use crate::sink::{Sink, write_out};
 use crate::take::{Go, take_all};
 use desk_report::desk::Desk;
-use std::io::{Read, Write};
+use std::io::{self, Read, Write};
 
 // After reading once: the first `have` bytes are not taken yet.
 #[derive(Clone, Copy)]
@@ -92,6 +93,17 @@ fn finish<W: Write>(desk: Desk, sink: Sink, out: &mut W, rest: &[u8]) -> End
     End::Unwritten
 }
 
+// Reads once, after the first `have` bytes, which stay.
+fn read_more<R: Read>(reader: &mut R, input: &mut [u8], have: usize) -> io::Result<usize>
+    requires { have < length input.old }
+    ensures bound { IfOk result (λ n. have + n ≤ length input.new) }
+    ensures len { length input.new ≡ length input.old }
+    ensures front { take have input.new ≡ take have input.old }
+    ensures bytes { ReadConsumes (R.remaining reader.old) (R.remaining reader.new) result (drop have input.new) }
+{
+    reader.read(&mut input[have..])
+}
+
 // Reads once, after the first `have` bytes, where there is room, and takes what is there.
 pub(crate) fn read_on<R: Read, W: Write>(
     desk: Desk,
@@ -106,7 +118,7 @@ pub(crate) fn read_on<R: Read, W: Write>(
     ensures took { (result.have ≤ 68) × (length input.new ≡ length input.old) × Read desk sink (take have input.old) result.desk (take result.have input.new) result.go }
     ensures passes { Passes desk sink (take have input.old) (R.remaining reader.old) (R.remaining reader.new) (W.contents out.old) (W.contents out.new) result.desk (take result.have input.new) result.go }
 {
-    match reader.read(&mut input[have..]) {
+    match read_more(reader, input, have) {
         Err(_) => stop(desk, End::Unread),
         Ok(n) => {
             if n == 0 {

@@ -1,6 +1,4 @@
 -- Of a run over bytes that are known.
-use Rattle.std.proofs.Common.{◌≡◌}
-use Rattle.desk_stream.specs.Known.{EndsOver}
 use Rattle.desk_stream.proofs.Known.{over_whole}
 use Rattle.desk_stream.proofs.run.Goals as goal
 

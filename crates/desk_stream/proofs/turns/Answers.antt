@@ -1,9 +1,8 @@
 -- Each turn is a read of the run.
-use Rattle.std.proofs.Common.{◌≡◌, ◌≤◌, length, take, arith, refl, []}
+use Rattle.std.proofs.Common.{take, arith, refl, [], ◌∙◌}
 use Rattle.desk_stream.specs.declared.End.{End}
-use Rattle.desk_stream.specs.declared.take.Go.{Go}
 use Rattle.desk_stream.proofs.Takes.{stands_on, stands_off, stands_end}
-use Rattle.desk_stream.proofs.Known.{over_first, over_on, over_off, over_end}
+use Rattle.desk_stream.proofs.Known.{over_first, over_on, over_off}
 use Rattle.desk_stream.proofs.turns.Goals as goal
 
 pub loop-rest-init : goal.loop-rest-init
@@ -15,12 +14,11 @@ loop-rest-preserved g c =
     let l = c.loop-rest in
     let r = c.read_on-turn in
     let t = rw c.in-On.is at r.ensures.took.2 in
-    let p = rw c.in-On.is at r.ensures.passes in
-    (
+    let p = rw c.in-On.is at r.ensures.passes in (
       r.ensures.took.0,
-      ?,
+      r.ensures.took.1 ∙ l.invariant.1,
       stands_on x.desk l.desk r.result.desk x.sink (take l.have l.input) (take r.result.have r.new.input) l.invariant.2 t,
-      over_on x.desk l.desk x.sink _ _ _ _ _ _ (take l.have l.input) l.invariant.3 r.result.desk (take r.result.have r.new.input) p
+      over_on x.desk l.desk x.sink _ _ _ _ _ _ (take l.have l.input) l.invariant.3 r.result.desk (take r.result.have r.new.input) p,
     )
 
 pub returns-in-Off-clause-value : goal.returns-in-Off-clause-value

@@ -1,5 +1,5 @@
 -- The line is within its buffer.
-use Rattle.std.proofs.Common.{◌≡◌, ◌≤◌, length, take, refl, arith, replicate}
+use Rattle.std.proofs.Common.{◌≡◌, take, refl, arith, replicate}
 use Rattle.desk_report.specs.Desk.{end_bytes}
 use Rattle.desk_report.proofs.Lengths.{end_length, in_buffer_lem}
 use Rattle.desk_stream.proofs.Holds.{stored_front}

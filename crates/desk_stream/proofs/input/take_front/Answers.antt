@@ -1,11 +1,9 @@
 -- What is kept of a packet that is not whole stands at the front, and is short.
-use Rattle.std.proofs.Common.{◌≡◌, ◌≤◌, length, take, arith, refl}
+use Rattle.std.proofs.Common.{◌≤◌, length, take, arith}
 use lib.Seq.{length-take-le}
 use Rattle.desk_stream.proofs.Takes.{kept_front}
 use Rattle.desk_stream.proofs.Known.{tells_written}
 use Rattle.desk_stream.specs.declared.take.Go.{Go}
-use Rattle.desk_stream.specs.Known.{Tells}
-use Rattle.desk_stream.specs.Took.{Took}
 use Rattle.desk_stream.proofs.input.take_front.Goals as goal
 
 pub returns-in-On-clause-took : goal.returns-in-On-clause-took

@@ -1,5 +1,5 @@
 -- The line stands after the bytes before it, or alone.
-use Rattle.std.proofs.Common.{◌≡◌, ◌≤◌, ◌+◌, ◌<◌, length, take, refl, arith}
+use Rattle.std.proofs.Common.{◌≡◌, ◌≤◌, ◌+◌, ◌<◌, length, arith}
 use Rattle.desk_stream.proofs.Holds.{with_room, without_room, after_room, after_full}
 use Rattle.desk_stream.proofs.Known.{owes_none, owes_line}
 use Rattle.desk_stream.proofs.sink.add.Goals as goal

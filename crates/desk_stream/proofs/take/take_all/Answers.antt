@@ -1,8 +1,9 @@
 -- Each turn is a step of `take_all`: a packet takes at least one byte, and at most those that are left.
-use Rattle.std.proofs.Common.{◌≡◌, ◌≤◌, ◌<◌, ◌+◌, ◌∙◌, length, take, drop, arith, length-drop, length-take}
+use Rattle.std.proofs.Common.{◌≤◌, ◌∙◌, length, take, arith, length-drop, length-take}
+use Rattle.std.proofs.lemmas.Bool.{not-false}
 use Rattle.desk_stream.proofs.Takes.{used-within, step-used, step-more, step-stop, none_more}
 use Rattle.desk_stream.proofs.Holds.{holds-used, holds_more, holds-stop, holds_all}
-use Rattle.desk_stream.proofs.Known.{due_used, due_more, due_stop, due_all}
+use Rattle.desk_stream.proofs.Known.{due_used, due_more, due_stop}
 use Rattle.desk_stream.proofs.take.take_all.Goals as goal
 
 pub overflow_add-used : goal.overflow_add-used
@@ -30,13 +31,12 @@ loop-used-preserved g c =
     let o = c.take_one-one in
     let s = x.input.now in
     let n = c.in-Used.n in
-    let b = used-within x.desk l.after o.result.desk s l.used o.result.next l.invariant.0 l.invariant.2 o.ensures.took.0 o.ensures.took.1 n c.in-Used.is in
-    (
+    let b = used-within x.desk l.after o.result.desk s l.used o.result.next l.invariant.0 l.invariant.2 o.ensures.took.0 o.ensures.took.1 n c.in-Used.is in (
       omega (arith, b.1, length-drop l.used s),
       o.ensures.took.2,
       step-used x.desk l.after o.result.desk s l.used o.result.next l.invariant.0 l.invariant.2 o.ensures.took.0 o.ensures.took.1 n c.in-Used.is,
       holds-used x.desk l.after o.result.desk s (take l.full l.buffer) (take o.result.full o.new.buffer) l.used o.result.next c.loop-used-test.true l.invariant.3 o.ensures.took.0 o.ensures.took.1 o.ensures.took.3 n c.in-Used.is b.0,
-      due_used x.desk l.after o.result.desk x.sink s (take l.full l.buffer) (take o.result.full o.new.buffer) _ _ _ l.used o.result.next l.invariant.4 o.ensures.took.0 o.ensures.took.1 (o.ensures.owes c.if-not-one.false) n c.in-Used.is
+      due_used x.desk l.after o.result.desk x.sink s (take l.full l.buffer) (take o.result.full o.new.buffer) _ _ _ l.used o.result.next l.invariant.4 o.ensures.took.0 o.ensures.took.1 (o.ensures.owes (not-false o.result.on c.if-not-one.false)) n c.in-Used.is,
     )
 
 pub returns-in-More-clause-took : goal.returns-in-More-clause-took
@@ -44,12 +44,11 @@ returns-in-More-clause-took g c =
     let x = c.args in
     let l = c.loop-used in
     let o = c.take_one-one in
-    let s = x.input.now in
-    (
+    let s = x.input.now in (
       l.invariant.0,
       o.ensures.took.2,
       step-more x.desk l.after o.result.desk s l.used o.result.next l.invariant.0 l.invariant.2 o.ensures.took.0 o.ensures.took.1 c.in-More.is,
-      holds_more x.desk l.after o.result.desk s (take l.full l.buffer) (take o.result.full o.new.buffer) l.used o.result.next c.loop-used-test.true l.invariant.3 o.ensures.took.0 o.ensures.took.1 o.ensures.took.3 c.in-More.is
+      holds_more x.desk l.after o.result.desk s (take l.full l.buffer) (take o.result.full o.new.buffer) l.used o.result.next c.loop-used-test.true l.invariant.3 o.ensures.took.0 o.ensures.took.1 o.ensures.took.3 c.in-More.is,
     )
 
 pub returns-in-More-clause-tells : goal.returns-in-More-clause-tells
@@ -57,19 +56,18 @@ returns-in-More-clause-tells g c =
     let x = c.args in
     let l = c.loop-used in
     let o = c.take_one-one in
-    due_more x.desk l.after o.result.desk x.sink x.input.now (take l.full l.buffer) (take o.result.full o.new.buffer) _ _ _ l.used o.result.next l.invariant.4 o.ensures.took.0 o.ensures.took.1 (o.ensures.owes c.if-not-one.false) c.in-More.is
+    due_more x.desk l.after o.result.desk x.sink x.input.now (take l.full l.buffer) (take o.result.full o.new.buffer) _ _ _ l.used o.result.next l.invariant.4 o.ensures.took.0 o.ensures.took.1 (o.ensures.owes (not-false o.result.on c.if-not-one.false)) c.in-More.is
 
 pub returns-in-Stop-clause-took : goal.returns-in-Stop-clause-took
 returns-in-Stop-clause-took g c =
     let x = c.args in
     let l = c.loop-used in
     let o = c.take_one-one in
-    let s = x.input.now in
-    (
+    let s = x.input.now in (
       l.invariant.0,
       o.ensures.took.2,
       step-stop x.desk l.after o.result.desk s l.used o.result.next l.invariant.0 l.invariant.2 o.ensures.took.0 o.ensures.took.1 c.in-Stop.is,
-      holds-stop x.desk l.after o.result.desk s (take l.full l.buffer) (take o.result.full o.new.buffer) l.used o.result.next c.loop-used-test.true l.invariant.3 o.ensures.took.0 o.ensures.took.1 o.ensures.took.3 c.in-Stop.is
+      holds-stop x.desk l.after o.result.desk s (take l.full l.buffer) (take o.result.full o.new.buffer) l.used o.result.next c.loop-used-test.true l.invariant.3 o.ensures.took.0 o.ensures.took.1 o.ensures.took.3 c.in-Stop.is,
     )
 
 pub returns-in-Stop-clause-tells : goal.returns-in-Stop-clause-tells
@@ -77,7 +75,7 @@ returns-in-Stop-clause-tells g c =
     let x = c.args in
     let l = c.loop-used in
     let o = c.take_one-one in
-    due_stop x.desk l.after o.result.desk x.sink x.input.now (take l.full l.buffer) (take o.result.full o.new.buffer) _ _ _ l.used o.result.next l.invariant.4 o.ensures.took.0 o.ensures.took.1 (o.ensures.owes c.if-not-one.false) c.in-Stop.is
+    due_stop x.desk l.after o.result.desk x.sink x.input.now (take l.full l.buffer) (take o.result.full o.new.buffer) _ _ _ l.used o.result.next l.invariant.4 o.ensures.took.0 o.ensures.took.1 (o.ensures.owes (not-false o.result.on c.if-not-one.false)) c.in-Stop.is
 
 pub returns-clause-took : goal.returns-clause-took
 returns-clause-took g c =

@@ -1,9 +1,8 @@
 -- The line is within its buffer, and short.
-use Rattle.std.proofs.Common.{◌≡◌, ◌≤◌, ◌+◌, ◌++◌, length, take, refl, arith, replicate}
+use Rattle.std.proofs.Common.{◌≡◌, take, refl, arith, replicate}
 use Rattle.desk_report.specs.Desk.{stepped_bytes}
 use Rattle.desk_report.proofs.Lengths.{step_length, in_buffer_lem}
 use Rattle.desk_stream.proofs.Holds.{stored_front}
-use Rattle.desk_stream.specs.Known.{Owes}
 use Rattle.desk_stream.proofs.take.take_one.Goals as goal
 
 pub slice_bounds-line-end : goal.slice_bounds-line-end
