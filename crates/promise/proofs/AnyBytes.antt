@@ -1,22 +1,20 @@
 -- The desk's calls on any bytes: where no follower is written so, 21 is the first of their conditions, else it does not apply and what follows it decides.
 use mathlib.Core.Path.{◌≡◌, refl, sym, ap, ◌∙◌}
-use mathlib.Core.Bool.{Bool, true, false, cond, not}
+use mathlib.Core.Bool.{Bool, true, false, not}
 use mathlib.Core.List.{List, [], ◌∷◌}
 use Prim.Native.Nat.{ℕ, ◌%◌}
 use native.Mathlib.Omega.{arith}
 use lib.Dec.{lit<}
-use Rattle.interface_records.specs.Row.{AllBytes}
 use Rattle.interface_display.specs.Providers.{none}
 use Rattle.interface_display.specs.declared.State.{State}
-use Rattle.abstract_policy.specs.Refusals.{first_refused, Ascending}
+use Rattle.abstract_policy.specs.Refusals.{Ascending}
 use Rattle.abstract_policy.proofs.First.{first}
 use Rattle.wire.specs.Read.{read_packet}
 use Rattle.wire.specs.declared.packet.ReadPacket.{ReadPacket}
-use Rattle.abstract_calls.specs.Called.{Called, refused_call}
 use Rattle.abstract_calls.specs.Calls.{desk_after, desk_returned, desk_buffer_in, desk_buffer_after}
 use Rattle.abstract_calls.specs.Definition.{Refuses}
 use Rattle.abstract_calls.specs.DeskCall.{DeskCall, desk_call, take_packet, read_shown, read_consumer, read_tracked, write_page, shown_by, consumer_by, tracked_by}
-use Rattle.abstract_calls.specs.Lent.{take_to, page_call}
+use Rattle.abstract_calls.specs.Lent.{take_to}
 use Rattle.abstract_calls.specs.Numbers.{refused_number, consumer_number}
 use Rattle.abstract_calls.proofs.OneToOne.{one_to_one}
 use Rattle.abstract_calls.proofs.Packets.{read_refuses}

@@ -2,18 +2,16 @@
 -- the abstract one does (promise_link proofs/Alike.antt).
 use mathlib.Core.Path.{◌≡◌, refl, sym, ap, ◌∙◌, subst}
 use mathlib.Core.Bool.{Bool, true, false, cond}
-use mathlib.Core.List.{List, [], ◌∷◌}
-use Prim.Native.Nat.{ℕ, ◌%◌, ◌≤◌}
+use mathlib.Core.List.{List, []}
+use Prim.Native.Nat.{ℕ, ◌%◌}
 use native.Mathlib.Omega.{arith}
 use lib.Dec.{eqb, lit<}
 use lib.ListN.{length}
-use borrow.Author.Tests.{eqb-true, eqb-false}
 use Rattle.power_policy_interface.specs.Limits.{follower_length}
 use Rattle.interface_records.specs.Row.{AllBytes}
 use Rattle.interface_display.specs.Providers.{none}
 use Rattle.interface_display.specs.declared.OptionAvailableConsumer.{OptionAvailableConsumer}
 use Rattle.interface_display.specs.declared.State.{State}
-use Rattle.abstract_policy.specs.Refusals.{first_refused}
 use Rattle.abstract_policy.proofs.First.{first}
 use Rattle.wire.specs.Read.{read_packet}
 use Rattle.wire.specs.declared.packet.ReadPacket.{ReadPacket}
@@ -32,7 +30,7 @@ use Rattle.abstract_calls.specs.Lent.{take_to, page_call}
 use Rattle.abstract_calls.specs.Numbers.{done_number, refused_number, shown_number, consumer_number}
 use Rattle.abstract_calls.specs.Calls.{desk_after, desk_returned, desk_buffer_in, desk_buffer_after, desk, packets_of, DeskBytes}
 use Rattle.abstract_calls.specs.Definition.{Refuses, followed, desk_return_to, desk_buffer_to, desk_conditions_to}
-use Rattle.abstract_calls.specs.DeskCall.{DeskCall, take_packet, read_shown, read_consumer, read_tracked, write_page, read_conditions, shown_by, consumer_by, tracked_by}
+use Rattle.abstract_calls.specs.DeskCall.{DeskCall, take_packet, read_shown, read_consumer, read_tracked, write_page, shown_by, consumer_by, tracked_by}
 use Rattle.abstract_calls.proofs.OneToOne.{one_to_one}
 use Rattle.abstract_calls.proofs.Packets.{read_refuses}
 use Rattle.abstract_calls.proofs.Pages.{page_refuses, page_back}

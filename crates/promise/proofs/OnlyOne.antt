@@ -1,15 +1,13 @@
 -- Only one behaviour meets the promise, over traces: both images are where the same lists of calls led.
 use mathlib.Core.Path.{◌≡◌, refl, sym, ap, ◌∙◌, subst}
-use mathlib.Core.Bool.{Bool, true, false, cond, not, ◌||◌}
+use mathlib.Core.Bool.{Bool, true, false, cond, not}
 use mathlib.Core.List.{List, [], ◌∷◌, ◌++◌}
 use Prim.Native.Nat.{ℕ, ◌%◌}
 use native.Mathlib.Omega.{arith}
-use lib.Dec.{eqb, ltb}
+use lib.Dec.{eqb}
 use lib.ListN.{length}
-use borrow.Author.Tests.{eqb-true, eqb-false, eq-eqb}
+use borrow.Author.Tests.{eqb-true, eqb-false}
 use Rattle.power_policy_interface.specs.Limits.{service_length, follower_length}
-use Rattle.power_policy_service.specs.declared.config.Config.{Config}
-use Rattle.power_policy_service.specs.declared.config.OptionConfig.{OptionConfig}
 use Rattle.abstract_policy.specs.Refusals.{first_refused, start_refusals}
 use Rattle.abstract_policy.specs.declared.state.Registration.{Registration}
 use Rattle.abstract_desk.specs.Takes.{EachBytes}
@@ -20,7 +18,6 @@ use Rattle.abstract_calls.specs.Calls as called
 use Rattle.abstract_calls.specs.Calls.{CallBytes, CallsBytes, image_after, returned, buffer_after, images, desk_after, desk_returned, desk_buffer_after, DeskBytes}
 use Rattle.abstract_calls.specs.DeskCall.{DeskCall, desk_call}
 use Rattle.abstract_calls.specs.Functions.{Functions, Arguments, config_of}
-use Rattle.abstract_calls.specs.Definition.{start_conditions}
 use Rattle.abstract_calls.proofs.Lists.{images_more, bytes_more, desks_more, desk_bytes_more}
 use Rattle.abstract_calls.proofs.Results.{refused_low, done_low}
 use Rattle.promise.specs.Promise.{done_or, start_refused, registers, Serves, Promise}

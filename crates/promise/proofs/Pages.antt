@@ -1,6 +1,6 @@
 -- Our page of an image is the definition's page of the follower that it is the image of, seen as the abstract one; and so it is read as what that shows.
 use mathlib.Core.Path.{◌≡◌, ap, ◌∙◌, subst}
-use mathlib.Core.Bool.{Bool, true, cond}
+use mathlib.Core.Bool.{true, cond}
 use mathlib.Core.List.{List, [], ◌∷◌}
 use mathlib.Core.Logic.{◌⊎◌, inl, inr}
 use Prim.Native.Nat.{ℕ}
@@ -28,7 +28,6 @@ use Rattle.bytes_follower_image.specs.Fits.{shown_fits, image_fits}
 use Rattle.bytes_follower_image.specs.Image.{follower_from}
 use Rattle.bytes_follower_image.specs.declared.ReadFollower.{ReadFollower}
 use Rattle.bytes_follower_image.proofs.OneImage.{fits, fresh_fits}
-use Rattle.bytes_calls.specs.Calls.{write_page_call}
 use Rattle.abi_functions.specs.Ours.{functions}
 use Rattle.promise_link.specs.Alike.{seen_at, seen}
 use Rattle.promise_link.specs.Link.{follower_after}

@@ -58,7 +58,7 @@ use Rattle.promise_calls.proofs.Written.{packet-sent, picture-sent}
 use Rattle.promise.specs.Promise.{start_refused, registers, Serves, Promise}
 use Rattle.promise.proofs.Desk.{ours_follower_starts}
 use Rattle.promise.proofs.Linked.{ours-link}
-use Rattle.promise.proofs.Starts.{Leaves, start_leaves, start_number, start_back}
+use Rattle.promise.proofs.Starts.{start_leaves, start_number, start_back}
 
 -- 21 does not apply to the image of a service: the conditions are those of the definition where it stands
 

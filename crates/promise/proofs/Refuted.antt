@@ -1,11 +1,11 @@
 -- The second programs are refuted by computed runs: what the definition says there is a number or bytes, and theirs are others.
 use mathlib.Core.Path.{◌≡◌, refl, sym, ap, ◌∙◌, subst}
-use mathlib.Core.Bool.{Bool, true, false, cond, ◌&&◌}
+use mathlib.Core.Bool.{Bool, true, ◌&&◌}
 use mathlib.Core.List.{List, [], ◌∷◌, ◌++◌}
 use mathlib.Core.Logic.{◌⊎◌, inl, inr}
-use Prim.Native.Nat.{ℕ, zero, suc, ◌+◌, ◌*◌, ◌-◌, ◌/◌, ◌%◌, ◌≤◌, ◌<◌}
+use Prim.Native.Nat.{ℕ, zero, suc, ◌/◌, ◌%◌}
 use native.Mathlib.Omega.{arith}
-use lib.Dec.{eqb, ltb}
+use lib.Dec.{ltb}
 use borrow.Author.Tests.{ltb-true}
 use lib.ListN.{length, replicate, take, get_or, set}
 use Rattle.power_policy_interface.specs.Limits.{service_length, follower_length}
@@ -26,18 +26,18 @@ use Rattle.wire.specs.Read.{read_packet}
 use Rattle.wire.specs.declared.packet.ReadPacket.{ReadPacket}
 use Rattle.promise_link.specs.Source.{number_in}
 use Rattle.promise_link.proofs.Lists.{one_packet}
-use Rattle.abstract_calls.specs.Numbers.{lost_number, closed_number}
+use Rattle.abstract_calls.specs.Numbers.{closed_number}
 use Rattle.abstract_calls.specs.ServiceCall.{ByteCall, open_event, give_answer, write_packet, write_picture}
-use Rattle.abstract_calls.specs.Calls.{CallsBytes, image_after, returned, buffer_after, images, desk}
+use Rattle.abstract_calls.specs.Calls.{CallsBytes, returned, buffer_after, images, desk}
 use Rattle.abstract_calls.specs.DeskCall.{take_packet}
-use Rattle.abstract_calls.specs.Functions.{Functions, Arguments, arguments, config_of}
+use Rattle.abstract_calls.specs.Functions.{Functions, Arguments, arguments}
 use Rattle.abstract_calls.specs.Definition.{defined, held, return_to, buffer_to}
 use Rattle.abstract_calls.proofs.Lists.{no_bytes}
 use Rattle.abstract_calls.proofs.Results.{refused_low}
 use Rattle.bytes_follower_image.proofs.Notices.{and_left, and_right}
 use Rattle.abi_functions.specs.Ours.{functions}
 use Rattle.promise_calls.proofs.Written.{bytes_left}
-use Rattle.promise.specs.Runs.{PacketOf, PictureOf, packet, picture, AllHanded, Comes, NothingAbove, Lost, Shows}
+use Rattle.promise.specs.Runs.{PacketOf, PictureOf, packet, picture, Comes, NothingAbove, Shows}
 use Rattle.promise.specs.Promise.{start_refused, registers, Link, Serves, Promise}
 use Rattle.promise.specs.Testers.{always_lost, deaf, ignores_answers, invents_count, always_port0, orders_nothing, turns_back, stays_full, Testers}
 use Rattle.promise.proofs.Promised.{promised}

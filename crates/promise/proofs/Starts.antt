@@ -12,7 +12,6 @@ use Rattle.power_policy_service.specs.declared.config.Config.{Config}
 use Rattle.power_policy_service.specs.declared.config.OptionConfig.{OptionConfig}
 use Rattle.abstract_policy.specs.Refusals.{first_refused}
 use Rattle.machine_service.specs.Service.{start_of, start_with, fresh_service}
-use Rattle.machine_service.specs.declared.Service.{Service}
 use Rattle.machine_service.specs.declared.Started.{Started}
 use Rattle.abstract_calls.specs.Called.{Called, called, refused_call}
 use Rattle.abstract_calls.specs.Numbers.{done_number, refused_number}

@@ -12,21 +12,17 @@ use Rattle.power_policy_interface.specs.declared.capability.PowerCapability.{Pow
 use Rattle.power_policy_interface.specs.declared.psu.Error.{Error}
 use Rattle.power_policy_interface.specs.declared.psu.OptionMismatch.{OptionMismatch}
 use Rattle.power_policy_interface.specs.declared.psu.Result.{Result}
-use Rattle.interface_display.specs.declared.Display.{Display}
 use Rattle.interface_display.specs.declared.OptionAvailableConsumer.{OptionAvailableConsumer}
 use Rattle.abstract_policy.specs.Given.{event_of, result_of}
 use Rattle.abstract_policy.specs.State.{display_of}
 use Rattle.abstract_policy.specs.Action.{Interaction, done, ask}
 use Rattle.abstract_policy.specs.Interaction.{event}
 use Rattle.abstract_policy.specs.Refusals.{no_answer}
-use Rattle.abstract_policy.specs.Policy.{Call, open_event, give_answer, write_packet, write_picture, Stand, between, at, Policy, started, proceeds, open_refused, opens, answers, policy_after, order_at, held_at, policies}
+use Rattle.abstract_policy.specs.Policy.{Call, open_event, give_answer, write_packet, write_picture, Stand, between, at, Policy, started, proceeds, open_refused, answers, policy_after, order_at, held_at, policies}
 use Rattle.abstract_policy.specs.declared.state.InternalState.{InternalState}
-use Rattle.abstract_policy.specs.declared.state.Records.{Records}
-use Rattle.abstract_policy.specs.declared.state.Registration.{Registration}
 use Rattle.abstract_policy.specs.declared.order.OptionOrder.{OptionOrder}
-use Rattle.abstract_policy.specs.declared.order.Order.{Order}
 use Rattle.abstract_policy.proofs.Chosen.{policies_append}
-use Rattle.machine_state.specs.Phase.{order_of, switch_order, connect_order}
+use Rattle.machine_state.specs.Phase.{order_of}
 use Rattle.machine_state.specs.declared.phase.Leaver.{Leaver}
 use Rattle.machine_state.specs.declared.phase.Phase.{Phase}
 use Rattle.machine_state.specs.declared.phase.Stage.{Stage}
@@ -38,9 +34,8 @@ use Rattle.promise_run.specs.Demands.{Equal}
 use Rattle.promise_run.specs.Run.{services, CallsFit}
 use Rattle.abstract_calls.specs.OneToOne.{CapabilityFits, OrderFits, MismatchFits, AnswerFits, ConsumerFits, DisplayFits}
 use Rattle.abstract_calls.specs.Definition.{OrderFitsAt}
-use Rattle.bytes_groups.proofs.Quads.{Within}
 use Rattle.bytes_service_image.specs.Typed.{ConsumerTyped, PhaseTyped}
-use Rattle.bytes_service_image.specs.WellFormed.{consumer_fits, mismatch_fits, error_fits, result_fits, leaver_fits, stage_fits, phase_fits}
+use Rattle.bytes_service_image.specs.WellFormed.{consumer_fits, mismatch_fits, error_fits, phase_fits}
 use Rattle.bytes_service_image.proofs.Fits.{within}
 use Rattle.bytes_service_image.proofs.Masks.{mask_lt}
 use Rattle.promise_invariant.proofs.Good.{Good, StateGood, parts}

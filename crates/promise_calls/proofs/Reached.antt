@@ -1,10 +1,8 @@
 -- After every list of calls the image is that of a well-formed service which stands where the definition stands, so that the next call returns and writes
 -- what the definition says: from a well-formed service of which promise_run's `Demands` hold.
-use mathlib.Core.Path.{◌≡◌, refl, sym, ap, ◌∙◌, subst}
+use mathlib.Core.Path.{◌≡◌, refl, sym, subst}
 use mathlib.Core.List.{List}
-use Prim.Native.Nat.{ℕ, ◌≤◌}
-use Rattle.power_policy_service.specs.Config.{MinimumFits}
-use Rattle.power_policy_service.specs.declared.config.OptionMilliwatts.{OptionMilliwatts}
+use Prim.Native.Nat.{ℕ}
 use Rattle.abstract_policy.specs.Policy.{started}
 use Rattle.machine_service.specs.declared.Service.{Service}
 use Rattle.promise_run.specs.Demands as run

@@ -19,7 +19,7 @@ use Rattle.abstract_policy.specs.State.{display_of}
 use Rattle.abstract_policy.specs.Action.{ask}
 use Rattle.abstract_policy.specs.Interaction.{close, event}
 use Rattle.abstract_policy.specs.Returns.{brings, open_to, answer_to, pushed_all, packet_to, picture_to}
-use Rattle.abstract_policy.specs.Policy.{Call, Stand, between, order_at, is_at, policies}
+use Rattle.abstract_policy.specs.Policy.{Call, between, order_at, is_at, policies}
 use Rattle.abstract_policy.specs.declared.state.InternalState.{InternalState}
 use Rattle.abstract_policy.specs.declared.state.Records.{Records}
 use Rattle.abstract_policy.specs.declared.state.Registration.{Registration}
@@ -49,7 +49,7 @@ use Rattle.machine_follows.proofs.Follows.{opened, leaving_answered, switching_a
 use Rattle.machine_follows.proofs.Serves.{service, moved_brings}
 use Rattle.promise_run.specs.Run.{after_call, services, CallsFit}
 use Rattle.promise_run.specs.Demands.{stand_of, Equal}
-use Rattle.promise_run.proofs.Matches.{Last, last_of, policy_of, open_is, Closed, StateAt, Runs, goes}
+use Rattle.promise_run.proofs.Matches.{Last, last_of, policy_of, open_is, StateAt, Runs, goes}
 
 closed_step : (b : Bool) (x : Stepped) (s : Service) → (cond (eqb (cond b 24 26) 0) x (refused (cond b 24 26) s)).step ≡ Step.Refused (cond b 24 26)
 closed_step true x s = refl

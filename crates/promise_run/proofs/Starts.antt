@@ -7,7 +7,6 @@ use borrow.Author.Tests.{leb-true, ltb-false}
 use Rattle.power_policy_interface.specs.Capability.{capability_fits}
 use Rattle.power_policy_interface.specs.declared.capability.PowerCapability.{PowerCapability}
 use Rattle.power_policy_service.specs.Config.{minimum_from, config_with, config_from, ConfigFits, MinimumFits}
-use Rattle.power_policy_service.specs.declared.config.Config.{Config}
 use Rattle.power_policy_service.specs.declared.config.OptionConfig.{OptionConfig}
 use Rattle.power_policy_service.specs.declared.config.OptionMilliwatts.{OptionMilliwatts}
 use Rattle.power_policy_service.specs.declared.config.ReadMinimum.{ReadMinimum}
