@@ -3,7 +3,7 @@
 use mathlib.Core.Path.{◌≡◌, refl, sym, ap, subst, ◌∙◌}
 use mathlib.Core.Bool.{Bool, true, false, cond, ◌&&◌}
 use mathlib.Core.List.{List}
-use mathlib.Core.Option.{Option, none, some}
+use mathlib.Core.Option.{none}
 use Prim.Native.Nat.{ℕ}
 use native.Mathlib.Omega.{arith}
 use lib.Dec.{eqb}
@@ -23,7 +23,7 @@ use Rattle.bytes_follower_image.specs.declared.ReadFollower.{ReadFollower}
 use Rattle.bytes_follower_image.specs.declared.ReadShown.{ReadShown}
 use Rattle.bytes_take.specs.Taken.{taken_image}
 use Rattle.bytes_take.proofs.Images.{read_lost, read_showing, read_refused}
-use Rattle.bytes_calls.specs.Calls.{put_follower, taken_call, take_on, take_call, reader_call}
+use Rattle.bytes_calls.specs.Calls.{put_follower, taken_call, take_call, reader_call}
 
 -- an image: what f makes of the follower, or z where there is none
 
