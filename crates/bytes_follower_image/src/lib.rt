@@ -93,7 +93,7 @@ fn shown_picture(image: &[u8]) -> ReadShown
 // What an image shows; what is held is looked at and stays in the image. Refused for bytes that no well-formed follower is written as.
 pub fn read_shown(image: &[u8]) -> ReadShown
     ensures value { result ≡ shown_read (follower_in image.now) }
-    ensures shown_by_lem { ShownBy image.now result }
+    ensures shown_by { ShownBy image.now result }
 {
     if image.len() != FOLLOWER_IMAGE {
         return ReadShown::Refused;

@@ -6,5 +6,5 @@ use Rattle.bytes_follower_calls.proofs.consumer.Goals as goal
 
 pub returns-in-Picture : goal.returns-in-Picture
 returns-in-Picture c =
-    by_picture c.args.image.now _ (λ f. consumer_number (consumer_of f.shown)) c.in-Picture.p c.consumer-in-Picture.result c.in-Picture.is c.read_shown.ensures.shown_by_lem
+    by_picture c.args.image.now _ (λ f. consumer_number (consumer_of f.shown)) c.in-Picture.p c.consumer-in-Picture.result c.in-Picture.is c.read_shown.ensures.shown_by
     (λ h i. c.consumer-in-Picture.ensures)

@@ -13,7 +13,7 @@ use Rattle.bytes_follower_calls.proofs.shown.Goals as goal
 pub returns-in-Picture : goal.returns-in-Picture
 returns-in-Picture c =
     let b = c.args.image.now in
-    by_picture b _ (λ f. shown_as (state_of f) f.shown) c.in-Picture.p c.shown.result c.in-Picture.is c.read_shown.ensures.shown_by_lem
+    by_picture b _ (λ f. shown_as (state_of f) f.shown) c.in-Picture.p c.shown.result c.in-Picture.is c.read_shown.ensures.shown_by
     (λ h i.
     let e : c.state.result ≡ cond (none_held 8 h) State.Level State.Waiting =
     c.state.ensures ∙ ap (λ (t : Bool). cond t State.Level State.Waiting) (none_same b c.in-Picture.p h i) in

@@ -8,4 +8,4 @@ pub returns-in-Picture : goal.returns-in-Picture
 returns-in-Picture c =
     let x = c.args in
     c.refused-in-Picture.ensures
-    ∙ by_picture x.image.now _ (λ f. refused_number x.number) _ (refused_number x.number) c.in-Picture.is c.read_shown.ensures.shown_by_lem (λ h i. refl)
+    ∙ by_picture x.image.now _ (λ f. refused_number x.number) _ (refused_number x.number) c.in-Picture.is c.read_shown.ensures.shown_by (λ h i. refl)

@@ -21,7 +21,7 @@ returns-in-Picture-clause-value c =
     let b = x.buffer.now in
     let p = c.in-Picture.p in
     let e =
-    on_picture i _ (λ f. page_call (page_bytes (page_for f)) b) (refused_call 21 b) p (page_call (page_bytes c.showing.result) b) c.in-Picture.is r.ensures.shown_by_lem
+    on_picture i _ (λ f. page_call (page_bytes (page_for f)) b) (refused_call 21 b) p (page_call (page_bytes c.showing.result) b) c.in-Picture.is r.ensures.shown_by
     (λ h k.
     let s : t.result ≡ cond (none_held 8 h) State.Level State.Waiting =
     t.ensures ∙ ap (λ (y : Bool). cond y State.Level State.Waiting) (none_same i p h k) in
@@ -39,7 +39,7 @@ returns-in-Picture-clause-buffer_after c =
     let b = x.buffer.now in
     let p = c.in-Picture.p in
     let e =
-    on_picture i _ (λ f. page_call (page_bytes (page_for f)) b) (refused_call 21 b) p (page_call (page_bytes c.showing.result) b) c.in-Picture.is r.ensures.shown_by_lem
+    on_picture i _ (λ f. page_call (page_bytes (page_for f)) b) (refused_call 21 b) p (page_call (page_bytes c.showing.result) b) c.in-Picture.is r.ensures.shown_by
     (λ h k.
     let s : t.result ≡ cond (none_held 8 h) State.Level State.Waiting =
     t.ensures ∙ ap (λ (y : Bool). cond y State.Level State.Waiting) (none_same i p h k) in

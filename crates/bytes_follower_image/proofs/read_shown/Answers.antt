@@ -12,15 +12,15 @@ use Rattle.bytes_follower_image.proofs.ShownBy.{shown_by_lem}
 use Rattle.std.proofs.Common.{rules}
 use Rattle.bytes_follower_image.proofs.read_shown.Goals as goal
 
-pub returns-in-0-clause-shown_by_lem : goal.returns-in-0-clause-shown_by_lem
-returns-in-0-clause-shown_by_lem c =
+pub returns-in-0-clause-shown_by : goal.returns-in-0-clause-shown_by
+returns-in-0-clause-shown_by c =
     let s = c.args.image.now in
     let e : c.shown_lost.result ≡ shown_read (follower_in s) =
     rw (eq-eqb _ _ c.if-image-ne-FOLLOWER_IMAGE.false, eq-eqb _ _ c.if-image-ne2.false, c.in-0.is, c.shown_lost.ensures) in
     subst (λ (r : ReadShown). ShownBy s r) (sym e) (shown_by_lem s (λ (k : ℕ). omega (arith, c.type_inv.image k)))
 
-pub returns-in-1-clause-shown_by_lem : goal.returns-in-1-clause-shown_by_lem
-returns-in-1-clause-shown_by_lem c =
+pub returns-in-1-clause-shown_by : goal.returns-in-1-clause-shown_by
+returns-in-1-clause-shown_by c =
     let s = c.args.image.now in
     let e : c.shown_picture.result ≡ shown_read (follower_in s) =
     rw (eq-eqb _ _ c.if-image-ne-FOLLOWER_IMAGE.false, eq-eqb _ _ c.if-image-ne2.false, c.in-1.is, c.shown_picture.ensures) in

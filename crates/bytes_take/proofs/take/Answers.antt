@@ -11,13 +11,13 @@ use Rattle.bytes_take.proofs.take.Goals as goal
 pub returns-in-Picture-clause-value : goal.returns-in-Picture-clause-value
 returns-in-Picture-clause-value c =
     let b = c.args.image.now in
-    let e = subst (λ (r : ReadShown). ShownBy b r) c.in-Picture.is c.read_shown.ensures.shown_by_lem in
+    let e = subst (λ (r : ReadShown). ShownBy b r) c.in-Picture.is c.read_shown.ensures.shown_by in
     sym (ap (λ (y : ReadFollower). y.ok) (read_showing b c.in-Picture.s e.0 e.1))
 
 pub returns-in-Picture-clause-image_after : goal.returns-in-Picture-clause-image_after
 returns-in-Picture-clause-image_after c =
     let x = c.args in
     let b = x.image.now in
-    let e = subst (λ (r : ReadShown). ShownBy b r) c.in-Picture.is c.read_shown.ensures.shown_by_lem in
+    let e = subst (λ (r : ReadShown). ShownBy b r) c.in-Picture.is c.read_shown.ensures.shown_by in
     let r = read_showing b c.in-Picture.s e.0 e.1 in
     c.take_shown.ensures e.0 e.1 ∙ sym (ap (λ (y : ReadFollower). cond y.ok (follower_bytes (taken y.follower x.p)) b) r)
