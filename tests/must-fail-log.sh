@@ -4,7 +4,8 @@
 # A must-fail edit may change several functions at once, each named by a line '# breaks: FUNCTION'. The prover refusing the
 # crate, which `rt ci` asks for, shows that one of them is refused; this asks that each is refused by itself: a goal of its own
 # is no longer proved. That a proof file no longer fits the code (a name or a field that is not there) does not count, and
-# neither does a callee that is not proved. A crate of theorems has no function: its edits name a theorem by a line
+# neither does a callee that is not proved: where the prover leaves a function for its callees, the function's own pairs, which
+# stand after its line '# breaks:', are tried alone (there a lemma that the function's answers cite may fail). A crate of theorems has no function: its edits name a theorem by a line
 # '# theorem: NAME', whose own proof must fail.
 # rt keeps nothing of what the prover says of an edit, so each is checked here, on a copy of the crates and over what `rt check`
 # has proved before. With EDITs, as tests/edits/wire/wrong_2.edit, these; else those of crates/*/must-fail.
@@ -17,27 +18,32 @@ cd "$(dirname "$0")/.." || exit 2
 mkdir -p target/must-fail
 tar -c --exclude='crates/*/out' --exclude='crates/*/must-fail' crates crates.txt | tar -x -C "$work"
 
-# Applies an edit to the copy, or undoes it; writes why if it cannot.
-edited() { # EDIT CRATE (apply|undo)
-    python3 - "$@" "$work" <<'END'
+# Applies an edit to the copy, or only what breaks a function; or undoes it. Writes why if it cannot.
+edited() { # EDIT CRATE (apply|undo) [FUNCTION]
+    python3 - "$work" "$@" <<'END'
 import shutil
 import sys
 
-edit, crate, what, work = sys.argv[1:]
-texts, path, old = {}, "", ""
+work, edit, crate, what, *only = sys.argv[1:]
+texts, path, old, broken = {}, "", "", []
 with open(edit, encoding="utf-8") as lines:
+    last = ""
     for line in lines.read().split("\n"):
         if line.startswith("file: "):
-            path = f"crates/{crate}/{line[len('file: '):].strip()}"
+            path, broken = f"crates/{crate}/{line[len('file: '):].strip()}", []
+        elif line.startswith("# breaks: "):
+            # (one change may break several functions, each named before it)
+            broken = [*(broken if last == "#" else []), line[len("# breaks: "):].strip()]
         elif line.startswith("old: "):
             old = line[len("old: "):]
-        elif line.startswith("new:"):
+        elif line.startswith("new:") and (not only or not broken or only[0] in broken):
             if path not in texts:
                 with open(path, encoding="utf-8") as text:
                     texts[path] = text.read()
             if texts[path].count(old) != 1:
                 sys.exit(f"an old text stands in {path} {texts[path].count(old)} times: {old}")
             texts[path] = texts[path].replace(old, line[len("new:"):].removeprefix(" "))
+        last = line[:1]
 for path, text in texts.items():
     if what == "undo":
         shutil.copyfile(path, f"{work}/{path}")
@@ -47,22 +53,30 @@ for path, text in texts.items():
 END
 }
 
-# Whether the log has an error of the theorem's own.
-theorem_fails() { # LOG NAME
-    grep -F ": error: \`$2\`" "$1" | grep -v -q -e 'was not admitted' -e 'was rejected' -e 'not in scope' -e 'has no field' -e 'has no `'
+# The errors that are not of a proof file that no longer fits, or of what stands on another error.
+own_errors() { # LOG WHERE
+    grep -F "$2" "$1" | grep ': error: `' | grep -v -e 'was not admitted' -e 'was rejected' -e 'not in scope' -e 'has no field' -e 'has no `'
 }
 
-# Whether the log has a goal of the function's own that is not proved: one that the prover was left to find, or one that proofs/FUNCTION/Answers.antt answers.
+# Whether a goal of the function's own is not proved: one that the prover was left to find, or one that proofs/FUNCTION/Answers.antt answers.
 function_fails() { # LOG CRATE FUNCTION
     said=$(grep "^fn $2::$3: " "$1" | grep -v ': proved$')
     [ -n "$said" ] || return 1
-    echo "$said" | grep -q '` did not prove `' && return 0
-    file=proofs/$(echo "$3" | sed 's/::/\//g')/Answers.antt
-    grep -F "$file:" "$1" | grep ': error: `' | grep -v -e 'was not admitted' -e 'was rejected' -e 'not in scope' -e 'has no field' -e 'has no `' |
-        sed 's/^[^`]*`\([^`]*\)`.*/\1/' | sort -u |
-        while read -r goal; do
-            if grep -q "^\(pub \)\?$goal : goal\.$goal\$" "crates/$2/$file"; then echo "$goal"; fi
-        done | grep -q .
+    echo "$said" | grep -q "\` did not prove \`" && return 0
+    own_errors "$1" "proofs/$(echo "$3" | sed 's/::/\//g')/Answers.antt:" >"$work/own"
+    [ -s "$work/own" ]
+}
+
+# Of a function that was tried alone: whether it falls with a lemma of proofs/ that its answers cite, and every name is there.
+lemma_fails() { # LOG CRATE FUNCTION
+    grep -q "^fn $2::$3: not proved$" "$1" &&
+        grep -F "proofs/$(echo "$3" | sed 's/::/\//g')/Answers.antt:" "$1" | grep -q 'was not admitted' &&
+        ! grep -q -e 'not in scope' -e 'has no field' -e 'has no `' "$1"
+}
+
+# What the prover says of the copy.
+checked() { # CRATE LOG
+    (cd "$work/crates/$1" && rt check) 2>&1 | grep -v '^so far: ' >"$2"
 }
 
 for edit in "$@"; do
@@ -81,21 +95,27 @@ for edit in "$@"; do
         fail "must-fail $label: it cannot be applied"
         continue
     fi
-    (cd "$work/crates/$crate" && rt check) 2>&1 | grep -v '^so far: ' >"$log"
+    checked "$crate" "$log"
     edited "$edit" "$crate" undo
     for theorem in $theorems; do
-        if theorem_fails "$log" "$theorem"; then
+        own_errors "$log" ": error: \`$theorem\`" >"$work/own"
+        if [ -s "$work/own" ]; then
             passed=$((passed + 1))
         else
             fail "must-fail $label: the proof of $theorem does not fail by itself"
         fi
     done
     for function in $functions; do
-        if function_fails "$log" "$crate" "$function"; then
-            passed=$((passed + 1))
-        else
-            fail "must-fail $label: no goal of $function fails"
+        if ! function_fails "$log" "$crate" "$function"; then
+            alone=$PWD/target/must-fail/$crate.$name.$(echo "$function" | sed 's/::/./g').log
+            edited "$edit" "$crate" apply "$function" && checked "$crate" "$alone"
+            edited "$edit" "$crate" undo
+            if ! function_fails "$alone" "$crate" "$function" && ! lemma_fails "$alone" "$crate" "$function"; then
+                fail "must-fail $label: no goal of $function fails"
+                continue
+            fi
         fi
+        passed=$((passed + 1))
     done
 done
 finish
