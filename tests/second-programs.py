@@ -103,7 +103,8 @@ def functions(crate, root):
 def neighbours(root):
     """For each field its neighbours in the structs that have it, and for each case of an enum its neighbour."""
     fields, cases = {}, {}
-    for folder, _, names in os.walk(os.path.join(root, "crates")):
+    for folder, folders, names in os.walk(os.path.join(root, "crates")):
+        folders[:] = [name for name in folders if name != "out"]
         for name in sorted(names):
             if not name.endswith(".rt"):
                 continue
