@@ -26,9 +26,9 @@ need() { # COMMAND WHAT
 # Proves the crates that the archive stands on, and then the archive's own, and compiles it.
 prove() {
     mkdir -p target
-    say "first the library is proved: about $minutes minutes on two cores from nothing, less where it was proved before; a line for each function that is checked"
+    say "first the library is proved: about $minutes minutes on two cores from nothing, less where it was proved before; a line for each crate as it is proved"
     say "what the prover says goes to $log; the day that is shown at the end is recorded in examples/demo.txt"
-    sh tests/built.sh power_policy 2>&1 | tee "$log" | grep -a -E '^(checked |== |rt: )' >&2 || true
+    sh tests/built.sh power_policy 2>&1 | tee "$log" | grep --line-buffered -a -E '^(crate |rt: )' >&2 || true
     [ -f "$lib/libpower_policy.a" ] || stop "the library is not proved: see $log"
 }
 

@@ -151,14 +151,16 @@ def planted():
         yield "" if right else "planted: %r: %s" % (head, found)
 
 
+def sources():
+    """The files of the crates' code, each crate's src/."""
+    for crate in sorted(os.listdir(os.path.join(ROOT, "crates"))):
+        for folder, _, names in sorted(os.walk(os.path.join(ROOT, "crates", crate, "src"))):
+            yield from ((crate, os.path.join(folder, name)) for name in sorted(names) if name.endswith(".rt"))
+
+
 def of_system():
     """The crates that read or write."""
-    found = set()
-    for folder, _, names in os.walk(os.path.join(ROOT, "crates")):
-        for name in names:
-            if name.endswith(".rt") and "std::io" in open(os.path.join(folder, name), encoding="utf-8").read():
-                found.add(os.path.relpath(folder, os.path.join(ROOT, "crates")).split(os.sep)[0])
-    return found
+    return {crate for crate, path in sources() if "std::io" in open(path, encoding="utf-8").read()}
 
 
 def main():
@@ -169,22 +171,20 @@ def main():
             print(wrong)
         failed += bool(wrong)
         passed += not wrong
-    for folder, _, names in sorted(os.walk(os.path.join(ROOT, "crates"))):
-        for name in sorted(names):
-            path = os.path.join(folder, name)
-            if not name.endswith(".rt") or os.path.exists(os.path.join(os.path.dirname(path), "main.rt")):
-                continue
-            text = open(path, encoding="utf-8").read()
-            system = os.path.relpath(path, os.path.join(ROOT, "crates")).split(os.sep)[0] in calling
-            for function, arguments, result, clauses in contracts(text):
-                found = list(faults(arguments, result, clauses, structs(text), system))
-                under = re.sub(r"(ensures (?:\w+ )?\{ )", r"\g<1>0 < 1 → ", clauses)
-                if (result or "&mut " in arguments) and not list(faults(arguments, result, under, structs(text), system)):
-                    found.append("is accepted with a hypothesis before every clause")
-                for fault in found:
-                    print("%s: %s %s" % (os.path.relpath(path, ROOT), function, fault))
-                failed += bool(found)
-                passed += not found
+    for crate, path in sources():
+        if os.path.exists(os.path.join(os.path.dirname(path), "main.rt")):
+            continue
+        text = open(path, encoding="utf-8").read()
+        system = crate in calling
+        for function, arguments, result, clauses in contracts(text):
+            found = list(faults(arguments, result, clauses, structs(text), system))
+            under = re.sub(r"(ensures (?:\w+ )?\{ )", r"\g<1>0 < 1 → ", clauses)
+            if (result or "&mut " in arguments) and not list(faults(arguments, result, under, structs(text), system)):
+                found.append("is accepted with a hypothesis before every clause")
+            for fault in found:
+                print("%s: %s %s" % (os.path.relpath(path, ROOT), function, fault))
+            failed += bool(found)
+            passed += not found
     print("%d passed, %d failed" % (passed, failed))
     sys.exit(1 if failed else 0)
 

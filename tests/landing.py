@@ -18,7 +18,7 @@ ROOT = os.path.dirname(os.path.dirname(os.path.abspath(__file__)))
 READ = re.compile(r"crates/\w+/(?:specs/.*\.antt|proofs/\w+\.antt|src/.*\.rt|must-fail/.*\.edit)$|tests/edits/\w+/.*\.edit$")
 # A declaration of antt: what stands before the name, and the name.
 DECLARES = re.compile(r"((?:(?:abbrev|unfoldable|pub|record|data) )+)([^\s(){}:]+)|()([^\s(){}:]+) :(?: |$)")
-FUNCTION = re.compile(r' *(?:pub |pub\(crate\) )?(?:extern "C" )?fn (\w+)\(')
+FUNCTION = re.compile(r' *(?:pub |pub\(crate\) )?(?:extern "C" )?fn (\w+)(?:<[^>]*>)?\(')
 
 
 def git(*words):
@@ -100,7 +100,7 @@ def read(commit, known):
         what, path = entry.split("\t")
         blob = what.split()[2]
         if path == "crates.txt":
-            crates = re.findall(r"^(\w+):", git("show", blob), re.M)
+            crates = re.findall(r"^(\w+)[^:#\n]*:", git("show", blob), re.M)
         if READ.match(path):
             if (blob, path) not in known:
                 known[blob, path] = list(declared(path, git("show", blob)))

@@ -26,7 +26,7 @@ LIBRARY = {"getD", "max", "cond", "take", "drop", "_&&_", "&", "&mut", "<<", "ru
 
 def files(folder, ending):
     for at, _, names in sorted(os.walk(os.path.join(ROOT, folder))):
-        for name in sorted(names):
+        for name in sorted(names) if "out" not in at.split(os.sep) else ():
             if name.endswith(ending):
                 yield os.path.join(at, name)
 

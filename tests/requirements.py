@@ -28,7 +28,7 @@ def repository():
     """The text of each file that is text, by its path."""
     found = {}
     for folder, folders, names in os.walk(ROOT):
-        folders[:] = [name for name in folders if name not in (".git", "target")]
+        folders[:] = [name for name in folders if name not in (".git", "target", "out")]
         for name in names:
             path = os.path.join(folder, name)
             try:

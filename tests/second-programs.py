@@ -6,20 +6,24 @@ second program that meets the contracts. Not a part of the gate.
 
 A change is one of: a comparison turned or moved by one, a condition negated, a constant off by one, a flag or an enum's case exchanged for its
 neighbour, an operator exchanged, operands or arguments exchanged, two arms of a match exchanged, a field taken from its neighbour, a statement or a
-call left out. Changes that do not compile, or that compile to the same code, are left out.
+call left out. Changes that do not compile are left out, and of those that are still proved the ones that compile to the same code (Code/Mir.antt of
+`rt check --generated DIR --start FUNCTION`).
 
-A function is proved from its own code and from the contracts of what it calls, so the changes of different functions are judged in one run, at most one
-in a function. A change is refused by a fact (something of its function is no longer proved) or by the fit (its proof file names what is no longer
-there); what is not proved in the end for neither reason is tried again alone, and listed as undecided if that does not help. A program that is
-still proved is run on its input, and refused if it writes something else than its file stdout, or by its own test (tests/CRATE.sh); so are, of a library
-that calls the system (crates.txt: it lists libc), the programs that stand on it.
+A function is proved from its own code and from the contracts of what it calls, so the changes of different functions are judged in one run (`rt check`),
+at most one in a function. By what the run says of a change's function F it is
+  proved     `fn CRATE::F: proved`
+  a fact     refused by a fact: a goal of F's own is open (`fn CRATE::F: no proof: expected answers ..; `search` did not prove ..`), or an answer or invariant
+             of proofs/F is refused for another reason than a name
+  the fit    refused by the fit: proofs/F names what is no longer there, or lacks what is now asked
+  undecided  neither: a callee is not proved, say. It is tried again alone, and listed as undecided if that does not help.
+A program that is still proved is run on its input, and refused if it writes something else than its file stdout, or by its own test (tests/CRATE.sh); so are,
+of a library that reads or writes (its code names std::io), the programs that stand on it.
 
 tests/second-programs.equal names the changes that leave the behaviour the same, a line each: FUNCTION | OLD | NEW | why. Any other change that is still
 proved makes the exit status 1. All is drawn from the seed: the same options and crates give the same changes, unless time runs out.
 """
 import argparse
 import concurrent.futures
-import itertools
 import os
 import queue
 import random
@@ -80,11 +84,11 @@ def functions(crate, root):
                     inside = m.group(1)
                 if lines[i] == "}":
                     inside = None
-                m = re.match(r'( *)(pub(\(crate\))? )?(extern "C" )?fn (%s)\(' % WORD, lines[i])
+                m = re.match(r'( *)(pub(\(crate\))? )?(extern "C" )?fn (%s)(?:<[^>]*>)?\(' % WORD, lines[i])
                 if m:
                     indent = m.group(1)
                     start = i
-                    while not (lines[start] == indent + "{" or (start == i and lines[start].endswith(" {"))):
+                    while not (lines[start] == indent + "{" or lines[start].endswith(" {")):
                         start += 1
                     end = start
                     while lines[end] != indent + "}":
@@ -99,7 +103,8 @@ def functions(crate, root):
 def neighbours(root):
     """For each field its neighbours in the structs that have it, and for each case of an enum its neighbour."""
     fields, cases = {}, {}
-    for folder, _, names in os.walk(os.path.join(root, "crates")):
+    for folder, folders, names in os.walk(os.path.join(root, "crates")):
+        folders[:] = [name for name in folders if name != "out"]
         for name in sorted(names):
             if not name.endswith(".rt"):
                 continue
@@ -240,29 +245,29 @@ def changes(function, lines, fields, cases):
 
 
 class Place:
-    """A copy of the repository with what is proved already, in which one crate at a time is changed."""
+    """A copy of the repository, in which one crate at a time is changed. `rt` begins there with what it kept in other copies on this machine."""
 
     def __init__(self, folder):
         self.folder = folder
         os.makedirs(folder)
-        shutil.copy(os.path.join(ROOT, "crates.txt"), folder)
-        shutil.copytree(os.path.join(ROOT, "crates"), os.path.join(folder, "crates"), ignore=shutil.ignore_patterns("must-fail"))
+        for name in ("crates.txt", "HANDLES"):
+            if os.path.exists(os.path.join(ROOT, name)):
+                shutil.copy(os.path.join(ROOT, name), folder)
+        shutil.copytree(os.path.join(ROOT, "crates"), os.path.join(folder, "crates"), ignore=shutil.ignore_patterns("must-fail", "out"))
         shutil.copytree(os.path.join(ROOT, "tests"), os.path.join(folder, "tests"))
-        for name in ("rlib", "stamp", "log", "bin"):
-            old = os.path.join(ROOT, "target", name)
-            if os.path.isdir(old):
-                shutil.copytree(old, os.path.join(folder, "target", name))
-        os.makedirs(os.path.join(folder, "target"), exist_ok=True)
+        os.makedirs(os.path.join(folder, "target"))
         for name in ("rust", "examples", os.path.join("target", "rust")):
             os.symlink(os.path.join(ROOT, name), os.path.join(folder, name))
 
-    def run(self, words, seconds=1200):
-        """The status and the output of a command; no status if it does not end in time, and then it is ended with all that it started."""
-        with subprocess.Popen(words, cwd=self.folder, stdout=subprocess.PIPE, stderr=subprocess.STDOUT, start_new_session=True,
-                              env=dict(os.environ, RT_CUT="0", RT_JOBS="1"), errors="replace") as child:
+    def run(self, words, seconds=1200, crate=None, given=None):
+        """The status of a command, in the crate's folder if there is one, and its output, with `given` on standard input that of the program alone; no status
+        if it does not end in time, and then it is ended with all that it started."""
+        folder = os.path.join(self.folder, "crates", crate) if crate else self.folder
+        with subprocess.Popen(words, cwd=folder, stdin=subprocess.DEVNULL if given is None else subprocess.PIPE, stdout=subprocess.PIPE,
+                              stderr=subprocess.STDOUT if given is None else subprocess.DEVNULL, start_new_session=True) as child:
             try:
-                said, _ = child.communicate(timeout=seconds)
-                return child.returncode, said
+                said, _ = child.communicate(given, timeout=seconds)
+                return child.returncode, said.decode("utf-8", "replace") if given is None else said
             except subprocess.TimeoutExpired:
                 os.killpg(child.pid, signal.SIGKILL)
                 return None, ""
@@ -284,80 +289,54 @@ class Place:
                     lines[c.line : c.line + len(new)] = new
             open(self.source(crate, file), "w", encoding="utf-8").write("\n".join(lines))
 
-    def code(self, crate, batch):
-        """The code of each function, or the changes that do not compile."""
-        self.write(crate, batch)
-        status, said = self.run(["rt", "mir", crate])
-        if status == 0:
-            parts = re.split(r'\(fn-def "', said)
-            return {p.split('"', 1)[0]: p.split('"', 1)[1].rstrip("( lcons") for p in parts[1:]}, []
-        bad = set()
-        for m in re.finditer(r"/crates/%s/src/(\S+?):(\d+):\d+: error" % re.escape(crate), said):
-            at = int(m.group(2)) - 1
-            for c in batch:
-                if c.function.file == m.group(1) and c.function.first <= at <= c.function.last:
-                    bad.add(c)
-        return None, list(bad)
+    def code(self, function, batch):
+        """The code of a function, as the prover has it, or None."""
+        self.write(function.crate, batch)
+        with tempfile.TemporaryDirectory() as folder:
+            self.run(["rt", "check", "--generated", folder, "--start", function.name], crate=function.crate)
+            path = os.path.join(folder, "Rattle-%s-proofs" % function.crate, *function.name.split("::"), "Code", "Mir.antt")
+            return open(path, encoding="utf-8").read() if os.path.exists(path) else None
 
 
-def compiled(place, crate, all_changes):
-    """The changes that compile to another code than their function's own."""
-    own, _ = place.code(crate, [])
-    if own is None:
-        sys.exit("second-programs: %s does not compile as it stands" % crate)
-    kept, none, same = [], 0, 0
-    for batch in batches(all_changes):
-        while batch:
-            code, bad = place.code(crate, batch)
-            if code is not None:
-                break
-            if not bad:
-                bad = [c for c in batch if place.code(crate, [c])[0] is None] or batch
-            none += len(bad)
-            batch = [c for c in batch if c not in bad]
-        for c in batch:
-            if code.get(c.function.path) == own.get(c.function.path):
-                same += 1
-            else:
-                kept.append(c)
-    return kept, none, same
-
-
-def batches(some):
-    """At most one change of a function in each, in the order given."""
-    rest = {}
-    for c in some:
-        rest.setdefault(c.function.path, []).append(c)
-    for k in itertools.count():
-        batch = [own[k] for own in rest.values() if k < len(own)]
-        if not batch:
-            return
-        yield batch
+# What the prover says of a name that is not there.
+NAME_GONE = re.compile(r"has no field|has no `|is not in scope|can be named from here")
 
 
 def judge(place, crate, batch):
-    """Sets each change's verdict: fact, fit, proved or None."""
-    place.write(crate, batch)
-    status, said = place.run(["rt", "dev", crate])
-    if status is None:
-        return
-    lines = said.split("\n")
-    proved = {m.group(1) for m in re.finditer(r"^fn (\S+): proved$", said, re.M)}
+    """Sets each change's verdict: fact, fit, proved, none (it does not compile) or None."""
+    while batch:
+        place.write(crate, batch)
+        status, said = place.run(["rt", "check", "--jobs", "1"], crate=crate)
+        if status is None:
+            return
+        errors = re.findall(r"^(?:\./)?src/(\S+?):(\d+):\d+: error\[", said, re.M)
+        if not errors:
+            break
+        bad = [c for c in batch if any(c.function.file == file and c.function.first < int(line) <= c.function.last + 1 for file, line in errors)]
+        if not bad and len(batch) > 1:
+            for c in batch:
+                judge(place, crate, [c])
+            return
+        for c in bad or batch:
+            c.verdict = "none"
+        batch = [c for c in batch if c.verdict != "none"]
+    lines = said.split("\n") if batch else []
     for c in batch:
-        path = "/proofs/%s/Proof.antt:" % c.function.name.replace("::", "/")
-        own = []
-        for i, line in enumerate(lines):
-            if path in line and ": error:" in line:
-                text = line + " " + (lines[i + 1] if i + 1 < len(lines) else "")
-                if "was not admitted" not in line:
-                    own.append(text)
-        auto = [l for l in lines if l.startswith("fn %s: no proof" % c.function.path) or l.startswith("fn %s: not proved" % c.function.path)]
-        if c.function.path in proved:
+        path = re.compile(r"\./proofs/%s/\w+\.antt:\d+:\d+: error: `" % c.function.name.replace("::", "/"))
+        own = [l for l in lines if path.match(l) and "was not admitted" not in l and "was rejected" not in l]
+        of = [l for l in lines if l.startswith("fn %s: " % c.function.path)]
+        if "fn %s: proved" % c.function.path in of:
             c.verdict = "proved"
-        elif any("Need-" not in e and "has no field" not in e and "not in scope" not in e for e in own) or any("does not close" in l for l in auto):
+        elif any(not NAME_GONE.search(e) for e in own) or any("did not prove" in l for l in of):
             c.verdict = "fact"
-        elif own or any("it calls" not in l for l in auto):
+        elif own or any("no proof" in l and "it calls" not in l for l in of):
             c.verdict = "fit"
+
+
+def listed():
+    """The crates of crates.txt, with the libraries that each names."""
+    with open(os.path.join(ROOT, "crates.txt"), encoding="utf-8") as f:
+        return {line.split(":")[0].split()[0]: line.split(":")[1].split() for line in f if ":" in line and not line.startswith("#")}
 
 
 def is_program(crate):
@@ -365,12 +344,12 @@ def is_program(crate):
 
 
 def programs(crate):
-    """The programs that a change of a crate is run by: itself, or those that stand on a library that calls the system."""
-    with open(os.path.join(ROOT, "crates.txt"), encoding="utf-8") as f:
-        named = {line.split(":")[0]: line.split(":")[1].split() for line in f if ":" in line and not line.startswith("#")}
+    """The programs that a change of a crate is run by: itself, or those that stand on a library that reads or writes."""
     if is_program(crate):
         return [crate]
-    return [other for other, names in named.items() if is_program(other) and crate in names] if "libc" in named[crate] else []
+    system = any("std::io" in open(os.path.join(folder, name), encoding="utf-8").read()
+                 for folder, _, names in os.walk(os.path.join(ROOT, "crates", crate, "src")) for name in names)
+    return [other for other, names in listed().items() if is_program(other) and crate in names] if system else []
 
 
 def runs(place, crate, batch):
@@ -383,19 +362,20 @@ def runs(place, crate, batch):
 def run_one(place, program, batch):
     test = os.path.join("tests", program + ".sh")
     if os.path.exists(os.path.join(ROOT, test)):
-        return place.run(["rt", "check", program], 600)[0] == 0 and place.run([test], 300)[0] == 0
-    status, said = place.run(["rt", "try", program], 300)
-    if status != 0 and not batch:
+        return place.run(["sh", "tests/built.sh", program], 600)[0] == 0 and place.run([test], 300)[0] == 0
+    given, wanted = (open(os.path.join(ROOT, "crates", program, name), "rb").read() for name in ("stdin", "stdout"))
+    written = place.run(["rt", "try"], 300, program, given)
+    if written != (0, wanted) and not batch:
         place.tries = False
     if not place.tries:
-        status, said = place.run(["rt", "check", program], 600)
-    return status == 0
+        written = place.run(["rt", "run"], 600, program, given)
+    return written == (0, wanted)
 
 
 def one_crate(place, crate, options, until, known, out):
     run = bool(programs(crate))
     place.write(crate, [])
-    status, said = place.run(["rt", "check", crate])
+    status, said = place.run(["rt", "check"], crate=crate)
     if status != 0:
         sys.exit("second-programs: %s is not proved as it stands\n%s" % (crate, said[-2000:]))
     place.tries = True
@@ -410,31 +390,49 @@ def one_crate(place, crate, options, until, known, out):
         own = list(changes(f, texts[f.file], fields, cases))
         random.Random("%s %s" % (options.seed, f.path)).shuffle(own)
         every += own
-    usable, none, same = compiled(place, crate, every)
-    if options.each:
-        usable = [c for batch in itertools.islice(batches(usable), options.each) for c in batch]
-    tried = []
-    for batch in batches(usable):
-        if time.time() > until:
+    rest, done, tried, code = {}, {}, [], {}
+    for c in every:
+        rest.setdefault(c.function.path, []).append(c)
+
+    def left(path):
+        """How many of a function's changes are still to be tried."""
+        return min(len(rest[path]), options.each - done.get(path, 0)) if options.each else len(rest[path])
+
+    def same(c):
+        """Whether a change compiles to the code that its function has."""
+        if c.function not in code:
+            code[c.function] = place.code(c.function, [])
+        return code[c.function] is not None and code[c.function] == place.code(c.function, [c])
+
+    while time.time() <= until:
+        batch = [rest[path].pop(0) for path in rest if left(path)]
+        if not batch:
             break
         judge(place, crate, batch)
         for c in batch:
             if c.verdict is None:
                 judge(place, crate, [c])
-            if c.verdict == "proved" and run and c.key() not in known and not runs(place, crate, [c]):
-                c.verdict = "run"
-        tried += batch
-        print("   %s: %d of %d" % (crate, len(tried), len(usable)), file=sys.stderr, flush=True)
+            if c.verdict == "proved" and c.key() not in known:
+                if same(c):
+                    c.verdict = "same"
+                elif run and not runs(place, crate, [c]):
+                    c.verdict = "run"
+        for c in batch:
+            if c.verdict not in ("none", "same"):
+                tried.append(c)
+                done[c.function.path] = done.get(c.function.path, 0) + 1
+        print("   %s: %d of %d" % (crate, len(tried), len(tried) + sum(left(path) for path in rest)), file=sys.stderr, flush=True)
     place.write(crate, [])
+    possible = len(tried) + sum(left(path) for path in rest)
     count = {v: sum(1 for c in tried if c.verdict == v) for v in ("fact", "fit", "run", "proved", None)}
     equal = [c for c in tried if c.verdict == "proved" and c.key() in known]
     free = [c for c in tried if c.verdict == "proved" and c.key() not in known]
     text = ["%s: %d possible, %d tried, %d refused by a fact, %d by the fit, %d by running, %d equal in behaviour, %d still proved, %d undecided" % (
-        crate, len(usable), len(tried), count["fact"], count["fit"], count["run"], len(equal), len(free), count[None])]
+        crate, possible, len(tried), count["fact"], count["fit"], count["run"], len(equal), len(free), count[None])]
     text += ["   still proved (%s): %s" % (c.what, c) for c in free]
     text += ["   undecided (%s): %s" % (c.what, c) for c in tried if c.verdict is None]
     print("\n".join(text), flush=True)
-    out.append((crate, len(usable), len(tried), count["fact"], count["fit"], count["run"], len(equal), len(free), count[None]))
+    out.append((crate, possible, len(tried), count["fact"], count["fit"], count["run"], len(equal), len(free), count[None]))
 
 
 def main():
@@ -445,8 +443,7 @@ def main():
     parser.add_argument("--jobs", type=int, default=2)
     parser.add_argument("crates", nargs="*")
     options = parser.parse_args()
-    listed = [l.split(":")[0] for l in open(os.path.join(ROOT, "crates.txt")) if l.strip() and not l.startswith("#")]
-    crates = options.crates or listed
+    crates = options.crates or list(listed())
     known = set()
     path = os.path.join(ROOT, "tests", "second-programs.equal")
     if os.path.exists(path):
