@@ -13,15 +13,17 @@ use desk_stream::sink::Sink;
 use std::env::{Env, FillError};
 use std::io::{self, Read, Write};
 
-fn unwritten(rt: &impl Eprint) -> io::Result<()> {
-    eprintln!(rt; "follow: standard output takes no more")
+fn unwritten(rt: &impl Eprint) {
+    let _ = eprintln!(rt; "follow: standard output takes no more");
 }
 
-// Says why a run has ended before its input did.
-fn tell(rt: &impl Eprint, end: End) -> io::Result<()> {
+// Says why a run has ended before its input did. What standard error does not take is dropped.
+fn tell(rt: &impl Eprint, end: End) {
     match end {
-        End::Read => Ok(()),
-        End::Unread => eprintln!(rt; "follow: standard input cannot be read"),
+        End::Read => {}
+        End::Unread => {
+            let _ = eprintln!(rt; "follow: standard input cannot be read");
+        }
         End::Unwritten => unwritten(rt),
     }
 }
@@ -56,10 +58,11 @@ fn has_arguments(rt: &impl Env) -> bool {
     }
 }
 
-fn main(rt: HostRuntime) -> io::Result<()> {
+fn main(rt: HostRuntime) {
     if has_arguments(&rt) {
-        return eprintln!(rt; "follow: takes no arguments; packets come on standard input");
+        let _ = eprintln!(rt; "follow: takes no arguments; packets come on standard input");
+        return;
     }
     let end = follow(&mut rt.reader(), &mut io::writer(&rt));
-    tell(&rt, end)
+    tell(&rt, end);
 }

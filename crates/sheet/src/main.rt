@@ -46,20 +46,20 @@ fn read_page<R: Read, W: Write>(reader: &mut R, told: &mut W, out: &mut [u8; 246
 }
 
 // Writes the page, or says that standard output does not take it.
-fn write_page(rt: &(impl Print + Eprint), out: &[u8; 246]) -> io::Result<()> {
+fn write_page(rt: &(impl Print + Eprint), out: &[u8; 246]) {
     if io::writer(rt).write_all(out).is_err() {
-        return eprintln!(rt; "sheet: standard output takes no more");
+        let _ = eprintln!(rt; "sheet: standard output takes no more");
     }
-    Ok(())
 }
 
 // Of an input that cannot be read to its end there is no page.
-fn sheet(rt: &HostRuntime) -> io::Result<()> {
+fn sheet(rt: &HostRuntime) {
     let mut out = [0u8; 246];
     if let End::Unread = read_page(&mut rt.reader(), &mut rt.stderr(), &mut out) {
-        return eprintln!(rt; "sheet: standard input cannot be read");
+        let _ = eprintln!(rt; "sheet: standard input cannot be read");
+        return;
     }
-    write_page(rt, &out)
+    write_page(rt, &out);
 }
 
 // Whether there is an argument after the program's own name.
@@ -70,9 +70,11 @@ fn has_arguments(rt: &impl Env) -> bool {
     }
 }
 
-fn main(rt: HostRuntime) -> io::Result<()> {
+// What standard error does not take is dropped.
+fn main(rt: HostRuntime) {
     if has_arguments(&rt) {
-        return eprintln!(rt; "sheet: takes no arguments; packets come on standard input");
+        let _ = eprintln!(rt; "sheet: takes no arguments; packets come on standard input");
+        return;
     }
-    sheet(&rt)
+    sheet(&rt);
 }
