@@ -5,8 +5,8 @@
 # crate, which `rt ci` asks for, shows that one of them is refused; this asks that each is refused by itself: a goal of its own
 # is no longer proved. That a proof file no longer fits the code (a name or a field that is not there) does not count, and
 # neither does a callee that is not proved: where the prover leaves a function for its callees, the function's own pairs, which
-# stand after its line '# breaks:', are tried alone (there a lemma that the function's answers cite may fail). A crate of theorems has no function: its edits name a theorem by a line
-# '# theorem: NAME', whose own proof must fail.
+# stand after its line '# breaks:', are tried alone (there it may also fall with a lemma that its answers cite). A crate of
+# theorems has no function: its edits name a theorem by a line '# theorem: NAME', whose own proof must fail.
 # rt keeps nothing of what the prover says of an edit, so each is checked here, on a copy of the crates and over what `rt check`
 # has proved before. With EDITs, as tests/edits/wire/wrong_2.edit, these; else those of crates/*/must-fail.
 # Writes a line for each function that is not refused and, last, 'N passed, M failed'. What the prover said is left in
@@ -63,6 +63,12 @@ function_fails() { # LOG CRATE FUNCTION
     said=$(grep "^fn $2::$3: " "$1" | grep -v ': proved$')
     [ -n "$said" ] || return 1
     echo "$said" | grep -q "\` did not prove \`" && return 0
+    # (the prover's notes on a function stand before its line)
+    awk -v own="fn $2::$3: " '
+        index($0, own) == 1 { found = held }
+        /^[a-z]+ [^ ]*: / { held = 0 }
+        /^note: src\/[^ ]*: it is not proved that / { held = 1 }
+        END { exit !found }' "$1" && return 0
     own_errors "$1" "proofs/$(echo "$3" | sed 's/::/\//g')/Answers.antt:" >"$work/own"
     [ -s "$work/own" ]
 }
