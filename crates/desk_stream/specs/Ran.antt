@@ -1,4 +1,5 @@
--- What a run comes to. What is read and written no contract can say: the pieces that the reads gave are free, and so is why it ended.
+-- What a run comes to, whatever is read and written: the pieces that the reads gave are free, and so is why it ended. Known.antt says more, of a reader and a
+-- writer whose bytes are known.
 use Rattle.std.specs.Prelude.{◌≡◌, Bool, true, false, List, [], ℕ}
 use Rattle.desk_report.specs.Reads.{begin, reads}
 use Rattle.desk_report.specs.declared.desk.Desk.{Desk}
