@@ -1,4 +1,4 @@
-// Bytes read from standard input, and those kept of a packet that is not whole.
+// Bytes read from a reader, and those kept of a packet that is not whole.
 ghost use Rattle.std.specs.Prelude.{◌≡◌, ◌+◌, ◌-◌, ◌≤◌, ◌<◌, length, take, drop, [], IfOk};
 ghost use Rattle.std.specs.Io.KnownBytes.{ReadConsumes};
 ghost use Rattle.desk_stream.specs.Ran.{Ends};

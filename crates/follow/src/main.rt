@@ -2,7 +2,7 @@
 // run is the crate `desk_stream`'s; that it writes `follow` of the whole input is desk_report's theorem `run_is_follow`.
 #![tactic(auto)]
 
-ghost use Rattle.std.specs.Prelude.{◌≡◌, IfOk, IfSome, true};
+ghost use Rattle.std.specs.Prelude.{◌≡◌, IfSome, true};
 ghost use Rattle.std.specs.Io.KnownBytes.{Appends};
 ghost use Rattle.desk_report.specs.Text.{header};
 ghost use Rattle.desk_report.specs.Desk as spec;
