@@ -21,7 +21,7 @@ FUNCTIONS = os.path.join(ROOT, "docs", "FUNCTIONS.md")
 # The columns that name what is declared.
 NAMING = ("definition", "function", "law", "theorem or contract")
 # Names of the language and of its library, and words that are no name.
-LIBRARY = {"getD", "max", "cond", "take", "drop", "_&&_", "&", "&mut", "<<", "rust/model", "ptr", "eq"}
+LIBRARY = {"get_or", "max", "cond", "take", "drop", "◌&&◌", "&", "&mut", "<<", "rust/model", "ptr", "eq"}
 
 
 def files(folder, ending):
