@@ -16,6 +16,24 @@ cd "$(dirname "$0")/.." || exit 2
 . tests/lib.sh
 [ $# -gt 0 ] || set -- crates/*/must-fail/*.edit
 mkdir -p target/must-fail
+
+# Crates side by side, as many as there are processors, each on a copy of its own.
+crate_of() { sed -E 's#^(crates|tests/edits)/([^/]*)/.*#\2#'; }
+if [ -z "${ONE_CRATE:-}" ]; then
+    printf '%s\n' "$@" >"$work/edits"
+    export work
+    # shellcheck disable=SC2016 # the inner shell expands these
+    crate_of <"$work/edits" | sort | uniq -c | sort -rn | awk '{ print $2 }' | xargs -P "$(nproc)" -I '{}' sh -c '
+        ONE_CRATE=yes tests/must-fail-log.sh $(grep -E "^(crates|tests/edits)/{}/" "$work/edits") >"$work/{}.said" 2>&1'
+    for said in "$work"/*.said; do
+        grep -v -E '^[0-9]+ passed, [0-9]+ failed$' "$said"
+        line=$(tail -n 1 "$said" | sed -nE 's/^([0-9]+) passed, ([0-9]+) failed$/\1 \2/p')
+        [ -n "$line" ] || line="0 1"
+        passed=$((passed + ${line% *}))
+        failed=$((failed + ${line#* }))
+    done
+    finish
+fi
 tar -c --exclude='crates/*/out' --exclude='crates/*/must-fail' crates crates.txt | tar -x -C "$work"
 
 # Applies an edit to the copy, or only what breaks a function; or undoes it. Writes why if it cannot.
