@@ -121,6 +121,10 @@ for edit in "$@"; do
     fi
     checked "$crate" "$log"
     edited "$edit" "$crate" undo
+    if grep -q ': error\[' "$log"; then
+        fail "must-fail $label: it does not reach the prover: $(grep -m 1 ': error\[' "$log")"
+        continue
+    fi
     for theorem in $theorems; do
         own_errors "$log" ": error: \`$theorem\`" >"$work/own"
         if [ -s "$work/own" ]; then
