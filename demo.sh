@@ -10,7 +10,6 @@ cd "$(dirname "$0")"
 lib=${POWER_POLICY_LIB:-target/staticlib}
 case $lib in /*) ;; *) lib=$PWD/$lib ;; esac
 log=target/demo.log
-minutes=15
 
 say() { echo "demo.sh: $*" >&2; }
 stop() {
@@ -26,7 +25,7 @@ need() { # COMMAND WHAT
 # Proves the crates that the archive stands on, and then the archive's own, and compiles it.
 prove() {
     mkdir -p target
-    say "first the library is proved: about $minutes minutes on two cores from nothing, less where it was proved before; a line for each crate as it is proved"
+    say "first the library is proved, which takes minutes from nothing and less where it was proved before; a line for each crate"
     say "what the prover says goes to $log; the day that is shown at the end is recorded in examples/demo.txt"
     sh tests/built.sh power_policy 2>&1 | tee "$log" | grep --line-buffered -a -E '^(crate |rt: )' >&2 || true
     [ -f "$lib/libpower_policy.a" ] || stop "the library is not proved: see $log"
