@@ -4,7 +4,7 @@
 Asks of every public function of a library that its contract fixes what it gives: no `requires`; an `ensures` that says what the result equals, if it
 has a result, or what each of its fields equals; and for every slice or array that it is lent by `&mut`, one that says what the bytes at exit equal. An equality
 counts only where it stands by itself or beside others: not behind a hypothesis, nor as one of two cases, nor under "there is", and not where its right
-side speaks of the result or of bytes at exit. Of a crate that reads or writes (its code names std::io) what the system gave is free, so that there an
+side speaks of the result or of bytes at exit. Of an impl of a trait: that a ghost member says what the value equals. Of a crate that reads or writes (its code names std::io) what the system gave is free, so that there an
 equality counts under "there is" too; a reader or writer that it is lent, of a type parameter, is the system's. Whether what they equal is the right thing is for a reader of the definitions. Programs are left out: they have no
 public function.
 Then contracts that leave something open are tried, and each must be found: some small ones, and each function's own with a hypothesis put before every clause.
@@ -25,7 +25,7 @@ def contracts(text):
         signature, clauses = re.match(r"(.*?)((?:\n *(?:ensures|requires) [^\n]*)*)$", head, re.S).groups()
         arguments, result = re.match(r"(.*)\)(?: -> (.*))?$", signature, re.S).groups()
         if result == "Self":
-            result = re.findall(r"^impl (\w+) \{", text[: m.start()], re.M)[-1]
+            result = re.findall(r"^impl(?:<[^>]*>)? (\w+)", text[: m.start()], re.M)[-1]
         for parameter in re.findall(r"(\w+):", m.group(3) or ""):
             arguments = re.sub(r"\w+: &mut %s\b,?" % parameter, "", arguments)
         yield m.group(2), arguments, result, clauses
@@ -33,7 +33,9 @@ def contracts(text):
 
 def structs(text):
     """The fields of each public struct, by its name."""
-    return {name: set(re.findall(r"^ *pub (\w+):", body, re.M)) for name, body in re.findall(r"^pub struct (\w+) \{\n(.*?)^\}", text, re.M | re.S)}
+    found = {name: set(re.findall(r"^ *pub (\w+):", body, re.M)) for name, body in re.findall(r"^pub struct (\w+) \{\n(.*?)^\}", text, re.M | re.S)}
+    found.update({name: set(map(str, range(body.count("pub ")))) for name, body in re.findall(r"^pub struct (\w+)\((.*)\);", text, re.M)})
+    return found
 
 
 def split(text, sign):
@@ -54,6 +56,10 @@ def bare(text):
     if text.startswith("(") and text.endswith(")") and all(text[:i].count("(") > text[:i].count(")") for i in range(1, len(text))):
         return bare(text[1:-1])
     return text
+
+
+# Functions of a result that no two results share (proofs/Numbered.antt of power_policy_interface): what they equal fixes it.
+WHOLE = re.compile(r"(?:numbered|turned_back_by|stepped_by self) result$")
 
 
 def equalities(text, system):
@@ -78,7 +84,8 @@ def fixed(clauses, system):
     for said in re.findall(r"ensures (?:\w+ )?\{ (.*) \}$", clauses, re.M):
         for left, right in equalities(said, system):
             if not re.search(r"(?<![\w«.])result(?![\w»])|\.new\b", right):
-                found.add(left.replace("«", "").replace("»", ""))
+                left = left.replace("«", "").replace("»", "")
+                found.add("result" if WHOLE.match(left) or left == "result.now" else left)
     return found
 
 
@@ -96,6 +103,35 @@ def faults(arguments, result, clauses, fields, system=False):
     for name in re.findall(r"(\w+): &(?:'\w+ )?mut ", arguments):
         if "%s.new" % name not in found:
             yield "does not say what %s is at exit" % name
+    if re.search(r"&(?:'\w+ )?mut self\b", arguments) and "self.new" not in found:
+        yield "does not say what self is at exit"
+
+
+def impls(text):
+    """Of each impl of a trait that is written out: its head, and the text of its ghost members."""
+    for m in re.finditer(r"^impl\b([^{]* for [^{]*)\{\n(.*?)^\}", text, re.M | re.S):
+        if re.search(r"\bfn \w+", m.group(2)):
+            yield m.group(1).strip(), re.findall(r"^    ghost \w+ = \{ (.*) \};$", m.group(2), re.M)
+
+
+def own_traits():
+    """The traits that the crates declare: the contracts of their functions stand there, and an impl only says what the words in them mean."""
+    return {name for _, path in sources() for name in re.findall(r"^pub trait (\w+)", open(path, encoding="utf-8").read(), re.M)}
+
+
+def declared(text):
+    """The name, arguments, result and clauses of each function that a public trait declares."""
+    for body in re.findall(r"^pub trait [^{]*\{\n(.*?)^\}", text, re.M | re.S):
+        for name, arguments, result, clauses in re.findall(r"^    fn (\w+)(?:<[^>]*>)?\((.*?)\)(?: -> ([^\n;]*))?((?:\n *(?:ensures|requires) [^\n]*)*);?$", body, re.M | re.S):
+            yield name, arguments, result, clauses.rstrip(";")
+
+
+def gives(member):
+    """Whether a ghost member, λ arguments value. said, fixes the value."""
+    m = re.match(r"λ (?:\S+ )*([^\s.]+)\. (.*)$", member)
+    return bool(m) and any(
+        left in (m.group(1), "numbered " + m.group(1)) and not re.search(r"(?<![\w«.])%s(?![\w»])" % re.escape(m.group(1)), right)
+        for left, right in equalities(m.group(2), False))
 
 
 STRUCT = "pub struct Two {\n    pub low: u8,\n    pub high: u8,\n}\n\n"
@@ -127,6 +163,20 @@ PLANTED = [
     ("pub fn f(out: &mut [u8], n: u8)\n    ensures { (n < 4 → out.new ≡ twice n) }\n", "out is at exit"),
     ("pub fn f(out: &mut [u8], n: u8)\n    ensures { out.new ≡ out.new }\n", "out is at exit"),
     ("pub fn f(a: &mut [u8], b: &mut [u8])\n    ensures { a.new ≡ b.old }\n", "b is at exit"),
+    ("pub fn f(n: u8) -> u8\n    ensures { numbered result ≡ twice n }\n", ""),
+    ("pub fn f(n: u8) -> u8\n    ensures { numbered result ≡ numbered result }\n", "the result"),
+    ("pub fn f(&mut self)\n    ensures { self.new ≡ twice self.old }\n", ""),
+    ("pub fn f(&mut self) -> u8\n    ensures { result ≡ self.old }\n", "self is at exit"),
+]
+
+# Impls of a trait, and whether what they give is fixed.
+PLANTED_IMPL = [
+    ("    ghost from_gives = { λ a b. b ≡ twice a };\n\n    fn from(a: u8) -> B {\n    }\n", True),
+    ("    ghost from_gives = { λ a b. (b ≡ twice a) × (b < 8) };\n\n    fn from(a: u8) -> B {\n    }\n", True),
+    ("    ghost from_gives = { λ a b. a < 4 → b ≡ twice a };\n\n    fn from(a: u8) -> B {\n    }\n", False),
+    ("    ghost from_gives = { λ a b. b ≡ b };\n\n    fn from(a: u8) -> B {\n    }\n", False),
+    ("    ghost from_gives = { λ a b. a ≡ twice b };\n\n    fn from(a: u8) -> B {\n    }\n", False),
+    ("    fn from(a: u8) -> B {\n    }\n", False),
 ]
 
 
@@ -149,6 +199,12 @@ def planted():
         found = list(faults(arguments, result, clauses, structs(text), system))
         right = len(found) > 0 and open_ in found[0] if open_ else not found
         yield "" if right else "planted: %r: %s" % (head, found)
+    for body, right in PLANTED_IMPL:
+        ((_, members),) = impls("impl From<u8> for B {\n" + body + "}\n")
+        yield "" if any(map(gives, members)) == right else "planted: %r" % body
+    for clause, right in (("ensures { result ≡ of self }", True), ("ensures { result < 8 }", False), ("requires { 0 < 1 }\n        ensures { result ≡ of self }", False)):
+        ((_, arguments, result, clauses),) = declared("pub trait T: Copy {\n    fn f(self) -> u8\n        %s;\n}\n" % clause)
+        yield "" if (not list(faults(arguments, result, clauses, {}))) == right else "planted in a trait: %s" % clause
 
 
 def sources():
@@ -165,7 +221,7 @@ def of_system():
 
 def main():
     passed = failed = 0
-    calling = of_system()
+    calling, own = of_system(), own_traits()
     for wrong in planted():
         if wrong:
             print(wrong)
@@ -185,6 +241,18 @@ def main():
                 print("%s: %s %s" % (os.path.relpath(path, ROOT), function, fault))
             failed += bool(found)
             passed += not found
+        for function, arguments, result, clauses in declared(text):
+            found = list(faults(arguments, result, clauses, structs(text), system))
+            for fault in found:
+                print("%s: %s of a trait %s" % (os.path.relpath(path, ROOT), function, fault))
+            failed += bool(found)
+            passed += not found
+        for head, members in impls(text):
+            if any(map(gives, members)) or re.match(r"\w+", head).group(0) in own:
+                passed += 1
+            else:
+                failed += 1
+                print("%s: impl %s does not say what it gives" % (os.path.relpath(path, ROOT), head))
     print("%d passed, %d failed" % (passed, failed))
     sys.exit(1 if failed else 0)
 

@@ -227,7 +227,7 @@ def made(text, name):
         match = re.search(pattern, body)
         if match:
             figures[places] = [int(one) for one in match.groups()]
-    minimum = re.search(r"min_consumer_threshold_mw: (?:OptionMilliwatts::)?(?:None|Some\((\d+)\))", body)
+    minimum = re.search(r"min_consumer_threshold_mw: (?:None|Some\((\d+)\))", body)
     if minimum:
         figures[5:] = [1, int(minimum.group(1))] if minimum.group(1) else [0, 0]
     return figures
@@ -435,7 +435,7 @@ def changes(texts):
         ("config", "min_consumer_threshold_mw: None", "min_consumer_threshold_mw: Some(0)"),
         ("config", "        Self::rust_default()", "        Self { min_consumer_threshold_mw: Some(7500), ..Self::rust_default() }"),
         ("rattle config", "limited_power_threshold_mw: 15000", "limited_power_threshold_mw: 15001"),
-        ("rattle config", "OptionMilliwatts::None,\n        }", "OptionMilliwatts::Some(7500),\n        }"),
+        ("rattle config", "min_consumer_threshold_mw: None,\n        }", "min_consumer_threshold_mw: Some(7500),\n        }"),
         ("header", "    uint64_t limited_mv; ", "    uint64_t limit_mv; "),
         ("header", "config->limited_mv, config->limited_ma", "config->limited_ma, config->limited_mv"),
         ("header", "config->minimum_present, config->minimum_mw", "config->minimum_present, config->threshold_mw"),

@@ -8,7 +8,8 @@ file named there is there, every edit in a column of edits is there, and every t
 Of the edits: each line '# breaks: FUNCTION' names a function of the crate, the line after it says in words what the wrong answer is, and what is replaced for it follows; and what an edit replaces stands
 once in its file.
 Writes a line for what is wrong, and last 'N passed, M failed'; a row, a name, a count or an edit's function is one test.
-With --write the column of wrong answers in docs/FUNCTIONS.md is first written from the edits, if each says its own.
+With --write the tables of docs/FUNCTIONS.md are first written: a row for each function of src/, with its wrong answers from the edits, if each says its own; a
+row that was there keeps its definitions, a new one has those that the contract cites.
 """
 import os
 import re
@@ -36,23 +37,72 @@ def text(path):
         return f.read()
 
 
+def camel(name):
+    """A type's name as the check names an impl by it: u8 is U8, `Option<X>` is OptionX."""
+    return "".join(word[0].upper() + word[1:] for word in re.findall(r"\w+", name) if word != "dyn")
+
+
+def owner(line):
+    """What the functions of an `impl` or a `trait` stand under, as the check names it: of `impl From<X> for u8`, U8FromX."""
+    m = re.match(r"(?:pub )?(?:impl|trait)(?:<.*?>)? (?:([\w:]+)(?:<(.*?)>)? for )?(\w+)(?:<.*>)?(?:[:\s].*)?\{?$", line)
+    if not m:
+        return None
+    of, argument, name = m.groups()
+    return camel(name) + of.split("::")[-1] + camel(argument or "") if of else name
+
+
+def cited(clauses):
+    """The definitions that a contract cites, as a row of docs/FUNCTIONS.md names them."""
+    found = []
+    for left, right in re.findall(r"(\S+) ≡ \(?(?:option_map )?([a-z_][\w]*)", clauses):
+        if right not in found and right not in ("record", "ok_or", "cond", "sets", "length"):
+            found.append(right)
+    return ", ".join("`%s`" % name for name in found) or "the value, in the contract"
+
+
 def functions(crate):
-    """How public each function of a crate is, by its path."""
-    found = {}
+    """Of each function of a crate, by its path and in the order of the files: how public it is, and the definitions that its contract cites. A derived one counts if an
+    edit breaks it."""
+    found, broken = {}, {name for _, _, name, _, _ in breaks(crate)}
     source = os.path.join(ROOT, "crates", crate, "src")
     for path in files(os.path.join("crates", crate, "src"), ".rt"):
         module = os.path.relpath(path, source)[:-3].split(os.sep)
         module = [] if module in (["lib"], ["main"]) else module
-        around = []
-        for line in text(path).split("\n"):
-            m = re.match(r"impl (\w+) \{", line)
-            if m:
-                around = [m.group(1)]
+        around, in_trait, gives, place = [], False, "", module
+        lines = text(path).split("\n")
+        for k, line in enumerate(lines):
+            if re.match(r"(pub )?(impl|trait)\b", line):
+                head = line
+                while "{" not in head and k + 1 < len(lines):
+                    k += 1
+                    head += " " + lines[k].strip()
+                around, in_trait, gives = [owner(head[: head.index("{")].rstrip())], " for " in head, ""
+                place = module
+                if not in_trait and not re.search(r"(struct|enum|trait) %s\b" % around[0], text(path)):
+                    # (a type of another module: its functions stand where it does)
+                    of = re.search(r"^use crate::((?:\w+::)*)(?:\{[^}]*\b)?%s\b" % around[0], text(path), re.M)
+                    place = of.group(1).split("::")[:-1] if of else module
             elif line.startswith("}"):
-                around = []
-            m = re.match(r' *(pub |pub\(crate\) )?(?:extern "C" )?fn (\w+)(?:<[^>]*>)?\(', line)
-            if m:
-                found["::".join(module + around + [m.group(2)])] = {None: "private", "pub ": "", "pub(crate) ": "in the crate"}[m.group(1)]
+                around, in_trait, gives, place = [], False, "", module
+            elif line.startswith("    ghost ") and around:
+                gives = line
+            derives = re.match(r"#\[derive\((.*)\)\]", lines[k - 1]) if k else None
+            type_of = re.match(r"(?:pub )?(?:struct|enum) (\w+)", line)
+            for of, method in (("PartialEq", "eq"), ("Default", "default")) if derives and type_of else ():
+                name = "::".join(module + [type_of.group(1) + of, method])
+                if of in derives.group(1).split(", ") and name in broken:
+                    found[name] = ("", "the fields', by the derive")
+            m = re.match(r' *(pub |pub\(crate\) )?(?:unsafe )?(?:extern "C" )?(?:const )?fn (\w+)(?:<.*?>)?\(', line)
+            if m and not re.search(r"\)[^{]*;$", line):
+                public = {None: "private", "pub ": "", "pub(crate) ": "in the crate"}[m.group(1)]
+                j, clauses = k, ""
+                while j < len(lines) and not re.search(r"(?<!ensures )\{$|^ *\{|;$", lines[j]):
+                    clauses += lines[j] + "\n"
+                    j += 1
+                if j < len(lines) and lines[j].endswith(";"):  # a trait only declares it
+                    continue
+                clauses = "\n".join(c for c in clauses.split("\n") if re.match(r" *(ensures|requires)", c))
+                found["::".join(place + around + [m.group(2)])] = ("" if in_trait else public, cited(clauses or gives))
     return found
 
 
@@ -85,6 +135,8 @@ def declared():
     for path in files("crates", ".rt"):
         found |= set(re.findall(r"(?:fn|struct|enum|mod) (\w+)", text(path)))
         found |= set(re.findall(r"^ +(?:pub )?(\w+)[(,:]", text(path), re.M))
+    for crate in os.listdir(os.path.join(ROOT, "crates")):
+        found |= {part for path in functions(crate) for part in path.split("::")}
     return found
 
 
@@ -125,19 +177,69 @@ def of_functions(section, head):
     return bool(head) and head[0] == "function" and os.path.isdir(os.path.join(ROOT, "crates", section))
 
 
+def of_module(crate, path):
+    """The module of a function whose table it stands in: the first, if it is one; else none."""
+    first = path.split("::")[0]
+    source = os.path.join(ROOT, "crates", crate, "src", first)
+    return first if first not in ("main", "lib") and (os.path.exists(source + ".rt") or os.path.isdir(source)) else ""
+
+
+def row(alone, name, there, said, kept):
+    """The row of a function: the definitions are those of its row before, if it had one."""
+    public, cites = there[name]
+    shown = name[len(alone) + 2 :] if alone else name
+    return "| `%s`%s | %s | %s |" % (shown, " (%s)" % public if public else "", kept.get(name, cites), said.get(name, ""))
+
+
 def write():
-    """Writes the column of wrong answers."""
-    lines = text(FUNCTIONS).split("\n")
-    for section, alone, head, body in tables(lines):
-        if of_functions(section, head):
-            there, said = functions(section), answers(section)
-            for number, row in body:
-                name, _ = function(alone, row[0], there)
-                if name in there:
-                    parts = lines[number - 1].split("|")
-                    lines[number - 1] = "|".join(parts[:3] + [" %s " % said.get(name, "")] + parts[4:])
+    """Writes the tables of functions: a row for each function, in the order of the files, with its wrong answers; and the counts above them."""
+    head, *sections = text(FUNCTIONS).split("\n## ")
+    for at, section in enumerate(sections):
+        crate = section.split("\n")[0].strip()
+        if not os.path.isdir(os.path.join(ROOT, "crates", crate)) or "| function |" not in section:
+            continue
+        there, said, kept = functions(crate), answers(crate), {}
+        for _, alone, titles, body in tables(("## " + section).split("\n")):
+            if titles and titles[0] == "function":
+                for _, cell in body:
+                    name, _ = function(alone, cell[0], there)
+                    kept[name] = cell[1]
+        title = next(line for line in section.split("\n") if line.startswith("| function |"))
+        by_module = any(alone for _, alone, titles, _ in tables(("## " + section).split("\n")) if titles and titles[0] == "function")
+        wanted = {}
+        for name in there:
+            wanted.setdefault(of_module(crate, name) if by_module else "", []).append(name)
+        lines, out, k, alone = section.split("\n"), [], 0, ""
+        while k < len(lines):
+            if re.fullmatch(r"`\w+`", lines[k]) and k + 2 < len(lines) and lines[k + 2].startswith("| function |"):
+                alone = lines[k].strip("`")
+                if alone not in wanted:
+                    k += 2
+                    while k < len(lines) and lines[k].startswith("|"):
+                        k += 1
+                    k += 1
+                    continue
+            if lines[k].startswith("| function |"):
+                if alone in wanted:
+                    out += lines[k : k + 2] + [row(alone, name, there, said, kept) for name in wanted.pop(alone)]
+                elif out and not out[-1]:
+                    out.pop()
+                while k < len(lines) and lines[k].startswith("|"):
+                    k += 1
+                continue
+            out.append(lines[k])
+            k += 1
+        while out and not out[-1]:
+            out.pop()
+        for alone, names in wanted.items():
+            out += [""] + (["`%s`" % alone, ""] if alone else []) + [title, "|---|---|---|"] + [row(alone, name, there, said, kept) for name in names]
+        section = "\n".join(out + [""])
+        wrongs = sum(len(re.findall(r"\(\d\)", one)) for one in said.values())
+        section = re.sub(r"\b\d+(\s+functions)", lambda m: str(len(there)) + m.group(1), section)
+        section = re.sub(r"\b\d+(\s+wrong\s+answers)", lambda m: str(wrongs) + m.group(1), section)
+        sections[at] = section
     with open(FUNCTIONS, "w", encoding="utf-8") as f:
-        f.write("\n".join(lines))
+        f.write("\n## ".join([head] + sections).rstrip("\n") + "\n")
 
 
 def edits():
@@ -217,7 +319,7 @@ def rows(at, section, alone, body):
         if name not in there:
             yield None, row, [at % number + "there is no function %s in %s" % (row[0], section)]
             continue
-        found = ["" if there[name] == public else at % number + "%s is %s" % (name, there[name] or "public")]
+        found = ["" if there[name][0] == public else at % number + "%s is %s" % (name, there[name][0] or "public")]
         found.append("" if row[2] == said.get(name, "") else at % number + "the wrong answers of %s are, by the edits: %s" % (name, said.get(name, "none")))
         yield name, row, found
 
@@ -275,4 +377,5 @@ def main():
     sys.exit(1 if failed else 0)
 
 
-main()
+if __name__ == "__main__":
+    main()

@@ -35,6 +35,8 @@ import sys
 import tempfile
 import time
 
+from promises import owner
+
 ROOT = os.path.dirname(os.path.dirname(os.path.abspath(__file__)))
 WORD = r"[A-Za-z_][A-Za-z0-9_]*"
 
@@ -79,21 +81,27 @@ def functions(crate, root):
             inside = None
             i = 0
             while i < len(lines):
-                m = re.match(r"impl (%s) \{$" % WORD, lines[i])
-                if m:
-                    inside = m.group(1)
+                if re.match(r"(pub )?(impl|trait)\b", lines[i]):
+                    head = lines[i]
+                    while "{" not in head:
+                        i += 1
+                        head += " " + lines[i].strip()
+                    inside = owner(head[: head.index("{")].rstrip())
                 if lines[i] == "}":
                     inside = None
-                m = re.match(r'( *)(pub(\(crate\))? )?(extern "C" )?fn (%s)(?:<[^>]*>)?\(' % WORD, lines[i])
+                m = re.match(r'( *)(pub(\(crate\))? )?(extern "C" )?(const )?fn (%s)(?:<[^(]*>)?\(' % WORD, lines[i])
                 if m:
                     indent = m.group(1)
                     start = i
-                    while not (lines[start] == indent + "{" or lines[start].endswith(" {")):
+                    while not (lines[start] == indent + "{" or lines[start].endswith((" {", ";"))):
                         start += 1
+                    if lines[start].endswith(";"):
+                        i = start + 1
+                        continue
                     end = start
                     while lines[end] != indent + "}":
                         end += 1
-                    path = module_of(file) + ([inside] if inside and indent else []) + [m.group(5)]
+                    path = module_of(file) + ([inside] if inside and indent else []) + [m.group(6)]
                     found.append(Function(crate, "::".join(path), file, start, end))
                     i = end
                 i += 1

@@ -1,4 +1,5 @@
 -- Each field of a number that was packed is had back by `/` and `%`, so equal numbers have equal fields.
+use Rattle.std.specs.Prelude.{Err, None, Ok, Option, Result, Some}
 use mathlib.Core.Path.{◌≡◌, refl, sym, ap, ◌∙◌}
 use mathlib.Core.Bool.{Bool, true, false}
 use Prim.Native.Nat.{ℕ, ◌+◌, ◌*◌, ◌<◌, ◌≤◌, ◌/◌, ◌%◌}
@@ -11,22 +12,17 @@ use Rattle.power_policy_interface.specs.Capability.{bit, psu_type_number, consum
 use Rattle.power_policy_interface.specs.Psu.{answer_from, answer_byte, dropped, kind_number, expected_byte, actual_byte, mismatch_of}
 use Rattle.power_policy_interface.specs.declared.capability.ConsumerFlags.{ConsumerFlags}
 use Rattle.power_policy_interface.specs.declared.capability.ConsumerPowerCapability.{ConsumerPowerCapability}
-use Rattle.power_policy_interface.specs.declared.capability.OptionConsumerFlags.{OptionConsumerFlags}
-use Rattle.power_policy_interface.specs.declared.capability.OptionProviderFlags.{OptionProviderFlags}
-use Rattle.power_policy_interface.specs.declared.capability.OptionPsuType.{OptionPsuType}
+use Rattle.interface_display.specs.declared.AvailableConsumer.{AvailableConsumer}
+use Rattle.power_policy_interface.specs.declared.psu.Mismatch.{Mismatch}
 use Rattle.power_policy_interface.specs.declared.capability.ProviderFlags.{ProviderFlags}
 use Rattle.power_policy_interface.specs.declared.capability.ProviderPowerCapability.{ProviderPowerCapability}
 use Rattle.power_policy_interface.specs.declared.capability.PsuType.{PsuType}
 use Rattle.power_policy_interface.specs.declared.psu.Error.{Error}
-use Rattle.power_policy_interface.specs.declared.psu.OptionMismatch.{OptionMismatch}
-use Rattle.power_policy_interface.specs.declared.psu.OptionResult.{OptionResult}
-use Rattle.power_policy_interface.specs.declared.psu.Result.{Result}
 use Rattle.power_policy_interface.specs.declared.psu.StateKind.{StateKind}
 use Rattle.power_policy_interface.specs.declared.service.UnconstrainedState.{UnconstrainedState}
 use Rattle.power_policy_interface.proofs.OneByte.{consumer_injective, consumer_read_write, provider_read_write, answer_read_write}
 use Rattle.interface_display.specs.Providers.{len, ones}
 use Rattle.interface_display.specs.declared.Display.{Display}
-use Rattle.interface_display.specs.declared.OptionAvailableConsumer.{OptionAvailableConsumer}
 use Rattle.interface_display.specs.declared.providers.Providers.{Providers}
 use Rattle.interface_display.specs.declared.State.{State}
 use Rattle.interface_display.proofs.Count.{ones_le}
@@ -78,14 +74,14 @@ bit_small : (b : Bool) → bit b ≤ 1
 bit_small true = omega arith
 bit_small false = omega arith
 
-type_small : (t : OptionPsuType) → psu_type_number t ≤ 6
-type_small OptionPsuType.None = omega arith
-type_small (OptionPsuType.Some PsuType.TypeC) = omega arith
-type_small (OptionPsuType.Some PsuType.DcJack) = omega arith
-type_small (OptionPsuType.Some PsuType.Custom0) = omega arith
-type_small (OptionPsuType.Some PsuType.Custom1) = omega arith
-type_small (OptionPsuType.Some PsuType.Custom2) = omega arith
-type_small (OptionPsuType.Some PsuType.Custom3) = omega arith
+type_small : (t : Option PsuType) → psu_type_number t ≤ 6
+type_small None = omega arith
+type_small (Some PsuType.TypeC) = omega arith
+type_small (Some PsuType.DcJack) = omega arith
+type_small (Some PsuType.Custom0) = omega arith
+type_small (Some PsuType.Custom1) = omega arith
+type_small (Some PsuType.Custom2) = omega arith
+type_small (Some PsuType.Custom3) = omega arith
 
 consumer_byte : (f : ConsumerFlags) → consumer_flags_byte f < 256
 consumer_byte f = omega (arith, bit_small f.unconstrained_power, type_small f.psu_type)
@@ -171,13 +167,13 @@ in_range (Order.Attach i c) h = record { kind = omega arith; device = h.0; flags
 in_range (Order.Detach i) h = record { kind = omega arith; device = h; flags = omega arith; mv = omega arith }
 in_range Order.Wait h = record { kind = omega arith; device = omega arith; flags = omega arith; mv = omega arith }
 
-abbrev some_consumer : OptionConsumerFlags → ConsumerFlags
-some_consumer OptionConsumerFlags.None = record { unconstrained_power = false; psu_type = OptionPsuType.None }
-some_consumer (OptionConsumerFlags.Some f) = f
+abbrev some_consumer : Option ConsumerFlags → ConsumerFlags
+some_consumer None = record { unconstrained_power = false; psu_type = None }
+some_consumer (Some f) = f
 
-abbrev some_provider : OptionProviderFlags → ProviderFlags
-some_provider OptionProviderFlags.None = record { psu_type = OptionPsuType.None }
-some_provider (OptionProviderFlags.Some f) = f
+abbrev some_provider : Option ProviderFlags → ProviderFlags
+some_provider None = record { psu_type = None }
+some_provider (Some f) = f
 
 abbrev consumer_of : ℕ → ℕ → ℕ → ConsumerPowerCapability
 consumer_of f v a = record { capability = record { voltage_mv = v; current_ma = a }; flags = some_consumer (consumer_flags_from f) }
@@ -199,10 +195,10 @@ order_of k p f v a =
     k Order.Wait
 
 consumer_back : (c : ConsumerPowerCapability) → consumer_of (consumer_flags_byte c.flags) c.capability.voltage_mv c.capability.current_ma ≡ c
-consumer_back c = ap (λ (f : OptionConsumerFlags). record { capability = c.capability; flags = some_consumer f }) (consumer_read_write c.flags)
+consumer_back c = ap (λ (f : Option ConsumerFlags). record { capability = c.capability; flags = some_consumer f }) (consumer_read_write c.flags)
 
 provider_back : (c : ProviderPowerCapability) → provider_of (provider_flags_byte c.flags) c.capability.voltage_mv c.capability.current_ma ≡ c
-provider_back c = ap (λ (f : OptionProviderFlags). record { capability = c.capability; flags = some_provider f }) (provider_read_write c.flags)
+provider_back c = ap (λ (f : Option ProviderFlags). record { capability = c.capability; flags = some_provider f }) (provider_read_write c.flags)
 
 order_back : (o : Order) → order_of (kind_in o) (device_in o) (flags_in o) (mv_in o) (ma_in o) ≡ o
 order_back (Order.Disconnect p) = refl
@@ -227,53 +223,53 @@ order_one o p h k e =
 
 -- closes: the byte tells the error but for its states, and these have their own bytes
 
-abbrev with_states : Result → OptionMismatch → Result
-with_states Result.Ok m = Result.Ok
-with_states (Result.Err Error.InvalidDevice) m = Result.Err Error.InvalidDevice
-with_states (Result.Err Error.CannotProvide) m = Result.Err Error.CannotProvide
-with_states (Result.Err Error.CannotConsume) m = Result.Err Error.CannotConsume
-with_states (Result.Err (Error.InvalidState n)) m = Result.Err (Error.InvalidState m)
-with_states (Result.Err Error.InvalidResponse) m = Result.Err Error.InvalidResponse
-with_states (Result.Err Error.Busy) m = Result.Err Error.Busy
-with_states (Result.Err Error.Timeout) m = Result.Err Error.Timeout
-with_states (Result.Err Error.Bus) m = Result.Err Error.Bus
-with_states (Result.Err Error.Charger) m = Result.Err Error.Charger
-with_states (Result.Err Error.Failed) m = Result.Err Error.Failed
+abbrev with_states : Result (Unit {0}) Error → Option Mismatch → Result (Unit {0}) Error
+with_states (Ok tt) m = Ok tt
+with_states (Err Error.InvalidDevice) m = Err Error.InvalidDevice
+with_states (Err Error.CannotProvide) m = Err Error.CannotProvide
+with_states (Err Error.CannotConsume) m = Err Error.CannotConsume
+with_states (Err (Error.InvalidState n)) m = Err (Error.InvalidState m)
+with_states (Err Error.InvalidResponse) m = Err Error.InvalidResponse
+with_states (Err Error.Busy) m = Err Error.Busy
+with_states (Err Error.Timeout) m = Err Error.Timeout
+with_states (Err Error.Bus) m = Err Error.Bus
+with_states (Err Error.Charger) m = Err Error.Charger
+with_states (Err Error.Failed) m = Err Error.Failed
 
-abbrev states_in : Result → OptionMismatch
-states_in Result.Ok = OptionMismatch.None
-states_in (Result.Err e) = mismatch_of e
+abbrev states_in : Result (Unit {0}) Error → Option Mismatch
+states_in (Ok tt) = None
+states_in (Err e) = mismatch_of e
 
-answer_back : (a : Result) → with_states (dropped a) (states_in a) ≡ a
-answer_back Result.Ok = refl
-answer_back (Result.Err Error.InvalidDevice) = refl
-answer_back (Result.Err Error.CannotProvide) = refl
-answer_back (Result.Err Error.CannotConsume) = refl
-answer_back (Result.Err (Error.InvalidState m)) = refl
-answer_back (Result.Err Error.InvalidResponse) = refl
-answer_back (Result.Err Error.Busy) = refl
-answer_back (Result.Err Error.Timeout) = refl
-answer_back (Result.Err Error.Bus) = refl
-answer_back (Result.Err Error.Charger) = refl
-answer_back (Result.Err Error.Failed) = refl
+answer_back : (a : Result (Unit {0}) Error) → with_states (dropped a) (states_in a) ≡ a
+answer_back (Ok tt) = refl
+answer_back (Err Error.InvalidDevice) = refl
+answer_back (Err Error.CannotProvide) = refl
+answer_back (Err Error.CannotConsume) = refl
+answer_back (Err (Error.InvalidState m)) = refl
+answer_back (Err Error.InvalidResponse) = refl
+answer_back (Err Error.Busy) = refl
+answer_back (Err Error.Timeout) = refl
+answer_back (Err Error.Bus) = refl
+answer_back (Err Error.Charger) = refl
+answer_back (Err Error.Failed) = refl
 
-answer_small : (a : Result) → answer_byte a < 256
-answer_small Result.Ok = omega arith
-answer_small (Result.Err Error.InvalidDevice) = omega arith
-answer_small (Result.Err Error.CannotProvide) = omega arith
-answer_small (Result.Err Error.CannotConsume) = omega arith
-answer_small (Result.Err (Error.InvalidState m)) = omega arith
-answer_small (Result.Err Error.InvalidResponse) = omega arith
-answer_small (Result.Err Error.Busy) = omega arith
-answer_small (Result.Err Error.Timeout) = omega arith
-answer_small (Result.Err Error.Bus) = omega arith
-answer_small (Result.Err Error.Charger) = omega arith
-answer_small (Result.Err Error.Failed) = omega arith
+answer_small : (a : Result (Unit {0}) Error) → answer_byte a < 256
+answer_small (Ok tt) = omega arith
+answer_small (Err Error.InvalidDevice) = omega arith
+answer_small (Err Error.CannotProvide) = omega arith
+answer_small (Err Error.CannotConsume) = omega arith
+answer_small (Err (Error.InvalidState m)) = omega arith
+answer_small (Err Error.InvalidResponse) = omega arith
+answer_small (Err Error.Busy) = omega arith
+answer_small (Err Error.Timeout) = omega arith
+answer_small (Err Error.Bus) = omega arith
+answer_small (Err Error.Charger) = omega arith
+answer_small (Err Error.Failed) = omega arith
 
-some_result : (a b : Result) → OptionResult.Some a ≡ OptionResult.Some b → a ≡ b
+some_result : (a b : Result (Unit {0}) Error) → Some a ≡ Some b → a ≡ b
 some_result a b e = cc
 
-same_dropped : (a b : Result) → answer_byte a ≡ answer_byte b → dropped a ≡ dropped b
+same_dropped : (a b : Result (Unit {0}) Error) → answer_byte a ≡ answer_byte b → dropped a ≡ dropped b
 same_dropped a b e = some_result (dropped a) (dropped b) (sym (answer_read_write a) ∙ (ap answer_from e ∙ answer_read_write b))
 
 kind_small : (k : StateKind) → kind_number k < 256
@@ -291,37 +287,37 @@ kind_back StateKind.Idle = refl
 kind_back StateKind.ConnectedProvider = refl
 kind_back StateKind.ConnectedConsumer = refl
 
-expected_small : (m : OptionMismatch) → MismatchFits m → expected_byte m < 256
-expected_small OptionMismatch.None h = omega arith
-expected_small (OptionMismatch.Some m) h = h.1
+expected_small : (m : Option Mismatch) → MismatchFits m → expected_byte m < 256
+expected_small None h = omega arith
+expected_small (Some m) h = h.1
 
-actual_small : (m : OptionMismatch) → actual_byte m < 256
-actual_small OptionMismatch.None = omega arith
-actual_small (OptionMismatch.Some m) = kind_small m.actual
+actual_small : (m : Option Mismatch) → actual_byte m < 256
+actual_small None = omega arith
+actual_small (Some m) = kind_small m.actual
 
 two_states : (x y : ℕ) (a b : StateKind) → x ≡ y → a ≡ b →
-    OptionMismatch.Some (record { expected = x; actual = a }) ≡ OptionMismatch.Some (record { expected = y; actual = b })
+    ◌≡◌ {A = Option Mismatch} (Some (record { expected = x; actual = a })) (Some (record { expected = y; actual = b }))
 two_states x y a b e q = rw (e, q) refl
 
-same_states : (m n : OptionMismatch) → MismatchFits m → MismatchFits n → expected_byte m ≡ expected_byte n → actual_byte m ≡ actual_byte n → m ≡ n
-same_states OptionMismatch.None OptionMismatch.None h k e a = refl
-same_states OptionMismatch.None (OptionMismatch.Some n) h k e a = absurd (omega (arith, k.0, e))
-same_states (OptionMismatch.Some m) OptionMismatch.None h k e a = absurd (omega (arith, h.0, e))
-same_states (OptionMismatch.Some m) (OptionMismatch.Some n) h k e a =
+same_states : (m n : Option Mismatch) → MismatchFits m → MismatchFits n → expected_byte m ≡ expected_byte n → actual_byte m ≡ actual_byte n → m ≡ n
+same_states None None h k e a = refl
+same_states None (Some n) h k e a = absurd (omega (arith, k.0, e))
+same_states (Some m) None h k e a = absurd (omega (arith, h.0, e))
+same_states (Some m) (Some n) h k e a =
     two_states m.expected n.expected m.actual n.actual e (sym (kind_back m.actual) ∙ (ap kind_from a ∙ kind_back n.actual))
 
-states_fit : (a : Result) → AnswerFits a → MismatchFits (states_in a)
-states_fit Result.Ok h = tt
-states_fit (Result.Err e) h = h
+states_fit : (a : Result (Unit {0}) Error) → AnswerFits a → MismatchFits (states_in a)
+states_fit (Ok tt) h = tt
+states_fit (Err e) h = h
 
-closed_fields : (a : Result) (n : ℕ) → closed_number a n ≡ packed 2 (answer_byte a) (expected_byte (states_in a)) (actual_byte (states_in a)) n 0
-closed_fields Result.Ok n = refl
-closed_fields (Result.Err e) n = refl
+closed_fields : (a : Result (Unit {0}) Error) (n : ℕ) → closed_number a n ≡ packed 2 (answer_byte a) (expected_byte (states_in a)) (actual_byte (states_in a)) n 0
+closed_fields (Ok tt) n = refl
+closed_fields (Err e) n = refl
 
-same_answers : (a b c d : Result) (m n : OptionMismatch) → c ≡ d → m ≡ n → with_states c m ≡ a → with_states d n ≡ b → a ≡ b
+same_answers : (a b c d : Result (Unit {0}) Error) (m n : Option Mismatch) → c ≡ d → m ≡ n → with_states c m ≡ a → with_states d n ≡ b → a ≡ b
 same_answers a b c d m n e q x y = cc
 
-close_one : (a b : Result) (n m : ℕ) → AnswerFits a → AnswerFits b → closed_number a n ≡ closed_number b m → (a ≡ b) × (n ≡ m)
+close_one : (a b : Result (Unit {0}) Error) (n m : ℕ) → AnswerFits a → AnswerFits b → closed_number a n ≡ closed_number b m → (a ≡ b) × (n ≡ m)
 close_one a b n m h k e =
     let x = states_fit a h in
     let y = states_fit b k in
@@ -387,9 +383,9 @@ lost_state s b c d e h q = omega (arith, h, q)
 lost_one : (s : State) (n : ℕ) (d : Display) → shown_number s n d ≡ lost_number → s ≡ State.Lost
 lost_one s n d q = state_one s State.Lost (lost_state (state_number s) _ _ _ _ (state_small s) q)
 
-abbrev consumer_with_lem : ℕ → ConsumerFlags → ℕ → ℕ → OptionAvailableConsumer
+abbrev consumer_with_lem : ℕ → ConsumerFlags → ℕ → ℕ → Option AvailableConsumer
 consumer_with_lem p f v a =
-    OptionAvailableConsumer.Some (record { psu = p; consumer_power_capability = record { capability = record { voltage_mv = v; current_ma = a }; flags = f } })
+    Some (record { psu = p; consumer_power_capability = record { capability = record { voltage_mv = v; current_ma = a }; flags = f } })
 
 same_consumers : (p q : ℕ) (f g : ConsumerFlags) (v w a b : ℕ) → p ≡ q → f ≡ g → v ≡ w → a ≡ b → consumer_with_lem p f v a ≡ consumer_with_lem q g w b
 same_consumers p q f g v w a b x y z u = rw (x, y, z, u) refl
@@ -398,11 +394,11 @@ same_consumers p q f g v w a b x y z u = rw (x, y, z, u) refl
 one_not : (p f v a : ℕ) → packed 6 1 p f v a ≡ packed 6 0 0 0 0 0 → ⊥
 one_not p f v a e = omega (arith, e)
 
-consumer_one : (c d : OptionAvailableConsumer) → ConsumerFits c → ConsumerFits d → consumer_number c ≡ consumer_number d → c ≡ d
-consumer_one OptionAvailableConsumer.None OptionAvailableConsumer.None h k e = refl
-consumer_one OptionAvailableConsumer.None (OptionAvailableConsumer.Some d) h k e = absurd (one_not d.psu _ _ _ (sym e))
-consumer_one (OptionAvailableConsumer.Some c) OptionAvailableConsumer.None h k e = absurd (one_not c.psu _ _ _ e)
-consumer_one (OptionAvailableConsumer.Some c) (OptionAvailableConsumer.Some d) h k e =
+consumer_one : (c d : Option AvailableConsumer) → ConsumerFits c → ConsumerFits d → consumer_number c ≡ consumer_number d → c ≡ d
+consumer_one None None h k e = refl
+consumer_one None (Some d) h k e = absurd (one_not d.psu _ _ _ (sym e))
+consumer_one (Some c) None h k e = absurd (one_not c.psu _ _ _ e)
+consumer_one (Some c) (Some d) h k e =
     let f = c.consumer_power_capability in
     let g = d.consumer_power_capability in
     let z =
@@ -432,9 +428,9 @@ tracked_one t u h k e =
 
 -- the outcomes that no other law needs
 
-consumer_low : (c : OptionAvailableConsumer) → consumer_number c % 256 ≡ 6
-consumer_low OptionAvailableConsumer.None = packed_low 6 0 0 0 0 0 (lit< tt)
-consumer_low (OptionAvailableConsumer.Some c) = packed_low 6 1 c.psu _ _ _ (lit< tt)
+consumer_low : (c : Option AvailableConsumer) → consumer_number c % 256 ≡ 6
+consumer_low None = packed_low 6 0 0 0 0 0 (lit< tt)
+consumer_low (Some c) = packed_low 6 1 c.psu _ _ _ (lit< tt)
 
 shown_low : (s : State) (n : ℕ) (d : Display) → shown_number s n d % 256 ≡ 5
 shown_low s n d = packed_low 5 (state_number s) _ _ _ _ (lit< tt)

@@ -1,4 +1,5 @@
 -- A take is refused by the one of 30 to 33 that its reader has met: every reading from the left ends with one of them or goes on.
+use Rattle.std.specs.Prelude.{Err, None, Ok, Option, Result, Some}
 use mathlib.Core.Bool.{Bool, true, false, cond, ◌&&◌}
 use mathlib.Core.List.{List, [], ◌∷◌}
 use mathlib.Core.Path.{◌≡◌, refl, sym, ap, ◌∙◌, subst}
@@ -7,11 +8,11 @@ use lib.Dec.{eqb, leb, ltb, lit≤}
 use native.Mathlib.Omega.{arith}
 use borrow.Author.Tests.{eqb-true, eqb-false}
 use Rattle.power_policy_interface.specs.Capability.{consumer_flags_from, provider_flags_from, disconnect_from}
-use Rattle.power_policy_interface.specs.declared.capability.OptionConsumerFlags.{OptionConsumerFlags}
-use Rattle.power_policy_interface.specs.declared.capability.OptionDisconnectFlags.{OptionDisconnectFlags}
-use Rattle.power_policy_interface.specs.declared.capability.OptionProviderFlags.{OptionProviderFlags}
+use Rattle.interface_display.specs.declared.AvailableConsumer.{AvailableConsumer}
+use Rattle.power_policy_interface.specs.declared.capability.ConsumerFlags.{ConsumerFlags}
+use Rattle.power_policy_interface.specs.declared.capability.DisconnectFlags.{DisconnectFlags}
+use Rattle.power_policy_interface.specs.declared.capability.ProviderFlags.{ProviderFlags}
 use Rattle.interface_display.specs.Notices.{empty, pushed}
-use Rattle.interface_display.specs.declared.OptionAvailableConsumer.{OptionAvailableConsumer}
 use Rattle.interface_display.specs.declared.notices.Notices.{Notices}
 use Rattle.interface_display.specs.declared.packet.Packet.{Packet}
 use Rattle.abstract_policy.specs.Refusals.{first_refused}
@@ -20,8 +21,6 @@ use Rattle.wire.specs.Number.{digit_before, digits_read, within, read_number}
 use Rattle.wire.specs.Packet.{consumer_flags_given, provider_flags_given, reason_given, capability, contract, consumer, unconstrained, consumer_disconnected, consumer_connected, provider_disconnected, provider_connected, unconstrained_changed, notice_of, notice, notices, ports, event_notices, event_after, event, consumer_given, picture_after, picture, packet_of, packet}
 use Rattle.wire.specs.Parser.{Parsed, refused, parsed, Parser, then, holds, byte, end, field, number_rest, number}
 use Rattle.wire.specs.Read.{packet_read, read_packet}
-use Rattle.wire.specs.declared.number.ReadNumber.{ReadNumber}
-use Rattle.wire.specs.declared.packet.ReadPacket.{ReadPacket}
 use Rattle.abstract_calls.specs.Definition.{Refuses}
 use Rattle.abstract_calls.specs.DeskCall.{read_conditions}
 use Rattle.abstract_calls.specs.Lent.{take_to}
@@ -69,15 +68,15 @@ field_met most s = then_met (byte s) _ (byte_met s) (λ b r. then_met (holds (le
 
 -- numbers
 
-abbrev NumberMet : ReadNumber → Type 0
-NumberMet (ReadNumber.Refused n) = OfPacket n
-NumberMet (ReadNumber.Number v used) = Unit {0}
+abbrev NumberMet : Result (ℕ × ℕ) ℕ → Type 0
+NumberMet (Err n) = OfPacket n
+NumberMet (Ok (v, used)) = Unit {0}
 
-before_met : (d : ℕ) (r : ReadNumber) → NumberMet r → NumberMet (digit_before d r)
-before_met d (ReadNumber.Refused n) h = h
-before_met d (ReadNumber.Number v used) h = go (eqb v 0)
+before_met : (d : ℕ) (r : Result (ℕ × ℕ) ℕ) → NumberMet r → NumberMet (digit_before d r)
+before_met d (Err n) h = h
+before_met d (Ok (v, used)) h = go (eqb v 0)
   where
-    go : (t : Bool) → NumberMet (cond t (ReadNumber.Refused 31) (ReadNumber.Number (d + v * 128) (suc used)))
+    go : (t : Bool) → NumberMet (cond {A = Result (ℕ × ℕ) ℕ} t (Err 31) (Ok (d + v * 128, suc used)))
     go true = ill
     go false = tt
 
@@ -85,26 +84,26 @@ digits_met : (k : ℕ) (s : List ℕ) → NumberMet (digits_read k s)
 digits_met k [] = cut
 digits_met zero (b ∷ s) = go (ltb b 128)
   where
-    go : (t : Bool) → NumberMet (cond t (ReadNumber.Number b 1) (ReadNumber.Refused 31))
+    go : (t : Bool) → NumberMet (cond {A = Result (ℕ × ℕ) ℕ} t (Ok (b, 1)) (Err 31))
     go true = tt
     go false = ill
 digits_met (suc k) (b ∷ s) = go (ltb b 128) (before_met (b - 128) (digits_read k s) (digits_met k s))
   where
-    go : (t : Bool) → NumberMet (digit_before (b - 128) (digits_read k s)) → NumberMet (cond t (ReadNumber.Number b 1) (digit_before (b - 128) (digits_read k s)))
+    go : (t : Bool) → NumberMet (digit_before (b - 128) (digits_read k s)) → NumberMet (cond {A = Result (ℕ × ℕ) ℕ} t (Ok (b, 1)) (digit_before (b - 128) (digits_read k s)))
     go true h = tt
     go false h = h
 
-within_met : (limit : ℕ) (r : ReadNumber) → NumberMet r → NumberMet (within limit r)
-within_met limit (ReadNumber.Refused n) h = h
-within_met limit (ReadNumber.Number v used) h = go (leb v limit)
+within_met : (limit : ℕ) (r : Result (ℕ × ℕ) ℕ) → NumberMet r → NumberMet (within limit r)
+within_met limit (Err n) h = h
+within_met limit (Ok (v, used)) h = go (leb v limit)
   where
-    go : (t : Bool) → NumberMet (cond t (ReadNumber.Number v used) (ReadNumber.Refused 31))
+    go : (t : Bool) → NumberMet (cond {A = Result (ℕ × ℕ) ℕ} t (Ok (v, used)) (Err 31))
     go true = tt
     go false = ill
 
-rest_met : (s : List ℕ) (r : ReadNumber) → NumberMet r → Met (number_rest s r)
-rest_met s (ReadNumber.Refused n) h = h
-rest_met s (ReadNumber.Number v used) h = tt
+rest_met : (s : List ℕ) (r : Result (ℕ × ℕ) ℕ) → NumberMet r → Met (number_rest s r)
+rest_met s (Err n) h = h
+rest_met s (Ok (v, used)) h = tt
 
 number_met : (limit : ℕ) (s : List ℕ) → Met (number limit s)
 unfolding number read_number
@@ -112,17 +111,17 @@ number_met limit s = rest_met s (within limit (digits_read 4 s)) (within_met lim
 
 -- the parts of a packet
 
-consumer_flags_met : (f : OptionConsumerFlags) (s : List ℕ) → Met (consumer_flags_given f s)
-consumer_flags_met OptionConsumerFlags.None s = odd
-consumer_flags_met (OptionConsumerFlags.Some f) s = tt
+consumer_flags_met : (f : Option ConsumerFlags) (s : List ℕ) → Met (consumer_flags_given f s)
+consumer_flags_met None s = odd
+consumer_flags_met (Some f) s = tt
 
-provider_flags_met : (f : OptionProviderFlags) (s : List ℕ) → Met (provider_flags_given f s)
-provider_flags_met OptionProviderFlags.None s = odd
-provider_flags_met (OptionProviderFlags.Some f) s = tt
+provider_flags_met : (f : Option ProviderFlags) (s : List ℕ) → Met (provider_flags_given f s)
+provider_flags_met None s = odd
+provider_flags_met (Some f) s = tt
 
-reason_met : (f : OptionDisconnectFlags) (s : List ℕ) → Met (reason_given f s)
-reason_met OptionDisconnectFlags.None s = odd
-reason_met (OptionDisconnectFlags.Some f) s = tt
+reason_met : (f : Option DisconnectFlags) (s : List ℕ) → Met (reason_given f s)
+reason_met None s = odd
+reason_met (Some f) s = tt
 
 capability_met : (s : List ℕ) → Met (capability s)
 unfolding capability
@@ -218,7 +217,7 @@ consumer_given_met : (n : ℕ) (s : List ℕ) → Met (consumer_given n s)
 consumer_given_met zero s = tt
 consumer_given_met (suc n) s = then_met (consumer s) _ (consumer_met s) (λ c r. tt)
 
-picture_after_met : (n : ℕ) (c : OptionAvailableConsumer) (s : List ℕ) → Met (picture_after n c s)
+picture_after_met : (n : ℕ) (c : Option AvailableConsumer) (s : List ℕ) → Met (picture_after n c s)
 unfolding picture_after
 picture_after_met n c s =
     then_met (unconstrained s) _ (unconstrained_met s)
@@ -244,20 +243,20 @@ packet_met : (s : List ℕ) → Met (packet s)
 unfolding packet
 packet_met s = then_met (byte s) _ (byte_met s) (λ k r. packet_of_met k r)
 
-abbrev ReadMet : ReadPacket → Type 0
-ReadMet (ReadPacket.Refused n) = OfPacket n
-ReadMet (ReadPacket.Packet p) = Unit {0}
+abbrev ReadMet : Result Packet ℕ → Type 0
+ReadMet (Err n) = OfPacket n
+ReadMet (Ok p) = Unit {0}
 
 read_met : (x : Parsed Packet) → Met x → ReadMet (packet_read x)
 read_met (refused n) h = h
 read_met (parsed p s) h = tt
 
-pub packet_refused : (y : List ℕ) (n : ℕ) → read_packet y ≡ ReadPacket.Refused n → (30 ≤ n) × (n ≤ 33)
+pub packet_refused : (y : List ℕ) (n : ℕ) → read_packet y ≡ Err n → (30 ≤ n) × (n ≤ 33)
 packet_refused y n e = subst ReadMet e (read_met (packet y) (packet_met y))
 
 -- what turns a take back: of 30 to 33 the one that the reader has met
 
-first_read : (n : ℕ) → (30 ≤ n) × (n ≤ 33) → first_refused (read_conditions (ReadPacket.Refused n)) ≡ n
+first_read : (n : ℕ) → (30 ≤ n) × (n ≤ 33) → first_refused (read_conditions (Err n)) ≡ n
 first_read n h = go (eqb n 30) refl (eqb n 31) refl (eqb n 32) refl (eqb n 33) refl
   where
     go : (a : Bool) → eqb n 30 ≡ a → (b : Bool) → eqb n 31 ≡ b → (c : Bool) → eqb n 32 ≡ c → (d : Bool) → eqb n 33 ≡ d →
@@ -268,16 +267,16 @@ first_read n h = go (eqb n 30) refl (eqb n 31) refl (eqb n 32) refl (eqb n 33) r
     go false e false f false k true m = sym (eqb-true n 33 m)
     go false e false f false k false m = absurd (omega (arith, h.0, h.1, eqb-false n 30 e, eqb-false n 31 f, eqb-false n 32 k, eqb-false n 33 m))
 
-pub read_refuses : (y : List ℕ) (r : ReadPacket) → read_packet y ≡ r → Refuses (read_conditions r) (take_to r)
-read_refuses y (ReadPacket.Refused n) e =
-    let q : first_refused (read_conditions (ReadPacket.Refused n)) ≡ n = first_read n (packet_refused y n e) in
+pub read_refuses : (y : List ℕ) (r : Result Packet ℕ) → read_packet y ≡ r → Refuses (read_conditions r) (take_to r)
+read_refuses y (Err n) e =
+    let q : first_refused (read_conditions (Err n)) ≡ n = first_read n (packet_refused y n e) in
     record {
-      first = first (read_conditions (ReadPacket.Refused n)) refl;
+      first = first (read_conditions (Err n)) refl;
       turned_back = λ z. ap refused_number (sym q);
       accepted = λ z. absurd (omega (arith, z, q, (packet_refused y n e).0));
     }
-read_refuses y (ReadPacket.Packet p) e = record {
-  first = first (read_conditions (ReadPacket.Packet p)) refl;
+read_refuses y (Ok p) e = record {
+  first = first (read_conditions (Ok p)) refl;
   turned_back = λ z. absurd (z refl);
   accepted = λ z k. let q : ◌≡◌ {A = ℕ} 4 0 = sym done_low ∙ k in omega (arith, q);
 }

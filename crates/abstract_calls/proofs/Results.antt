@@ -1,9 +1,10 @@
 -- The low bytes of the numbers returned: what follows is a multiple of 256, and of 65536.
+use Rattle.std.specs.Prelude.{Err, Ok, Result}
 use mathlib.Core.Path.{◌≡◌}
 use Prim.Native.Nat.{ℕ, ◌/◌, ◌%◌, ◌<◌, ◌≤◌}
 use native.Mathlib.Omega.{arith}
 use lib.Dec.{lit<}
-use Rattle.power_policy_interface.specs.declared.psu.Result.{Result}
+use Rattle.power_policy_interface.specs.declared.psu.Error.{Error}
 use Rattle.abstract_policy.specs.declared.order.Order.{Order}
 use Rattle.abstract_calls.specs.Numbers.{packed, refused_number, wait_ms, order_number, closed_number, written_number, done_number}
 
@@ -23,9 +24,9 @@ order_low (Order.Attach i c) = packed_low 1 5 i _ _ _ (lit< tt)
 order_low (Order.Detach i) = packed_low 1 6 i 0 0 0 (lit< tt)
 order_low Order.Wait = packed_low 1 7 0 0 wait_ms 0 (lit< tt)
 
-pub closed_low : (a : Result) (n : ℕ) → closed_number a n % 256 ≡ 2
-closed_low Result.Ok n = packed_low 2 0 0 0 n 0 (lit< tt)
-closed_low (Result.Err e) n = packed_low 2 _ _ _ n 0 (lit< tt)
+pub closed_low : (a : Result (Unit {0}) Error) (n : ℕ) → closed_number a n % 256 ≡ 2
+closed_low (Ok tt) n = packed_low 2 0 0 0 n 0 (lit< tt)
+closed_low (Err e) n = packed_low 2 _ _ _ n 0 (lit< tt)
 
 pub written_low : (n : ℕ) → written_number n % 256 ≡ 3
 written_low n = packed_low 3 (n % 256) 0 0 0 0 (lit< tt)

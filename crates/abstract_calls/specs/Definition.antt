@@ -1,8 +1,8 @@
 -- What the definition says of a run on bytes: fed with the start and the calls that no numbered condition turns back, records read from their bytes.
-use Rattle.std.specs.Prelude.{ℕ, ◌+◌, ◌*◌, ◌-◌, ◌%◌, Bool, not, List, [], ◌∷◌, ◌++◌, ◌≡◌, eqb, length}
+use Rattle.std.specs.Prelude.{ℕ, ◌+◌, ◌*◌, ◌-◌, ◌%◌, Bool, not, List, [], ◌∷◌, ◌++◌, ◌≡◌, eqb, length, Option}
 use Rattle.power_policy_interface.specs.Limits.{service_length}
 use Rattle.interface_display.specs.declared.Display.{Display}
-use Rattle.power_policy_service.specs.declared.config.OptionConfig.{OptionConfig}
+use Rattle.power_policy_service.specs.declared.config.Config.{Config}
 use Rattle.abstract_policy.specs.Refusals.{first_refused, First, start_refusals}
 use Rattle.abstract_policy.specs.Action.{ask}
 use Rattle.abstract_policy.specs.Ends.{AtMost}
@@ -69,7 +69,7 @@ OrderFitsAt between = Unit {0}
 OrderFitsAt (at n o k) = OrderFits o
 
 -- of a start: REF-20, and REF-21 for bytes of another length than an image's
-abbrev pub start_conditions : List ℕ → OptionConfig → ℕ → ℕ → List (Bool × ℕ)
+abbrev pub start_conditions : List ℕ → Option Config → ℕ → ℕ → List (Bool × ℕ)
 start_conditions image config ports chargers = start_refusals config ports chargers ++ ((not (eqb (length image) service_length), 21) ∷ [])
 
 -- DEM-1b: the first that applies is returned, and a call that meets none is not turned back (its low byte is not 0)

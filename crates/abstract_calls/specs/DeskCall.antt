@@ -1,10 +1,9 @@
 -- Each call on a follower's image, as one record: what it is of any functions, and what the abstract follower says of it.
-use Rattle.std.specs.Prelude.{ℕ, Bool, false, List, [], ◌∷◌, eqb, ltb, length}
+use Rattle.std.specs.Prelude.{ℕ, Bool, false, List, [], ◌∷◌, eqb, ltb, length, Err, None, Ok, Result}
 use Rattle.power_policy_interface.specs.Limits.{page_length}
 use Rattle.interface_display.specs.Providers.{none}
-use Rattle.interface_display.specs.declared.OptionAvailableConsumer.{OptionAvailableConsumer}
+use Rattle.interface_display.specs.declared.packet.Packet.{Packet}
 use Rattle.wire.specs.Read.{read_packet}
-use Rattle.wire.specs.declared.packet.ReadPacket.{ReadPacket}
 use Rattle.abstract_desk.specs.Follower.{Follower, lost, showing, state}
 use Rattle.abstract_calls.specs.Functions.{Functions}
 use Rattle.abstract_page.specs.Page.{page_of}
@@ -27,11 +26,11 @@ pub record FollowerCall : Type 0 where
 -- a take
 
 -- REF-3: the reader has met this first, from the left
-abbrev pub met_first : ℕ → ReadPacket → Bool
-met_first n (ReadPacket.Refused m) = eqb m n
-met_first n (ReadPacket.Packet p) = false
+abbrev pub met_first : ℕ → Result Packet ℕ → Bool
+met_first n (Err m) = eqb m n
+met_first n (Ok p) = false
 
-abbrev pub read_conditions : ReadPacket → List (Bool × ℕ)
+abbrev pub read_conditions : Result Packet ℕ → List (Bool × ℕ)
 read_conditions r = (met_first 30 r, 30) ∷ (met_first 31 r, 31) ∷ (met_first 32 r, 32) ∷ (met_first 33 r, 33) ∷ []
 
 abbrev pub taking : List ℕ → FollowerCall
@@ -53,7 +52,7 @@ shown_by (lost floor) = lost_number
 shown_by (showing n d l) = shown_number (state (showing n d l)) n d
 
 abbrev pub consumer_by : Follower → ℕ
-consumer_by (lost floor) = consumer_number OptionAvailableConsumer.None
+consumer_by (lost floor) = consumer_number None
 consumer_by (showing n d l) = consumer_number d.consumer
 
 abbrev pub tracked_by : Follower → ℕ

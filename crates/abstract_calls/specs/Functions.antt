@@ -1,8 +1,8 @@
 -- The exported functions (FRM-5), of any program: from the numbers and bytes that each is lent, the number that it returns and the bytes that it
 -- leaves in the slice that it may write. A slice that it may only read stays, by its type.
-use Rattle.std.specs.Prelude.{ℕ, List}
+use Rattle.std.specs.Prelude.{ℕ, List, Option}
 use Rattle.power_policy_service.specs.Config.{config_from}
-use Rattle.power_policy_service.specs.declared.config.OptionConfig.{OptionConfig}
+use Rattle.power_policy_service.specs.declared.config.Config.{Config}
 use Rattle.abstract_calls.specs.Called.{Called}
 
 -- what a start is given beside the bytes of its image
@@ -33,7 +33,7 @@ arguments ports chargers threshold unlimited_mv unlimited_ma limited_mv limited_
     }
 
 -- none if a figure is over its type or minimum-present is above 1; at 0, minimum-mw is not looked at
-abbrev pub config_of : Arguments → OptionConfig
+abbrev pub config_of : Arguments → Option Config
 config_of a =
     config_from a.threshold_mw a.unlimited_mv a.unlimited_ma a.limited_mv a.limited_ma a.minimum_present a.minimum_mw
 

@@ -1,13 +1,13 @@
 -- FRM-10: the 64-bit number that a C function returns (docs/STATE.md):
 -- its low byte says what happened, the other bytes what belongs to it.
-use Rattle.std.specs.Prelude.{ℕ, ◌+◌, ◌*◌, ◌/◌, ◌%◌}
+use Rattle.std.specs.Prelude.{ℕ, ◌+◌, ◌*◌, ◌/◌, ◌%◌, Err, None, Ok, Option, Result, Some}
 use Rattle.power_policy_interface.specs.Capability.{bit, consumer_flags_byte, provider_flags_byte}
 use Rattle.power_policy_interface.specs.Psu.{error_byte, mismatch_of, expected_byte, actual_byte}
 use Rattle.power_policy_interface.specs.declared.capability.PowerCapability.{PowerCapability}
-use Rattle.power_policy_interface.specs.declared.psu.Result.{Result}
+use Rattle.interface_display.specs.declared.AvailableConsumer.{AvailableConsumer}
+use Rattle.power_policy_interface.specs.declared.psu.Error.{Error}
 use Rattle.interface_display.specs.Providers.{len}
 use Rattle.interface_display.specs.declared.Display.{Display}
-use Rattle.interface_display.specs.declared.OptionAvailableConsumer.{OptionAvailableConsumer}
 use Rattle.interface_display.specs.declared.providers.Providers.{Providers}
 use Rattle.interface_display.specs.declared.State.{State}
 use Rattle.abstract_policy.specs.declared.order.Order.{Order}
@@ -44,14 +44,14 @@ order_number Order.Wait = packed 1 7 0 0 wait_ms 0
 
 -- FRM-3, a close: the answer byte, the states of a ported transition's InvalidState, and how many orders the event has given
 
-abbrev pub closed_number : Result → ℕ → ℕ
-closed_number Result.Ok orders = packed 2 0 0 0 orders 0
-closed_number (Result.Err e) orders = packed 2 (error_byte e) (expected_byte (mismatch_of e)) (actual_byte (mismatch_of e)) orders 0
+abbrev pub closed_number : Result (Unit {0}) Error → ℕ → ℕ
+closed_number (Ok tt) orders = packed 2 0 0 0 orders 0
+closed_number (Err e) orders = packed 2 (error_byte e) (expected_byte (mismatch_of e)) (actual_byte (mismatch_of e)) orders 0
 
-abbrev pub step_number : Step → ℕ
-step_number (Step.Order o) = order_number o
-step_number (Step.Closed a n) = closed_number a n
-step_number (Step.Refused n) = refused_number n
+abbrev pub step_number : Result Step ℕ → ℕ
+step_number (Ok (Step.Order o)) = order_number o
+step_number (Ok (Step.Closed a n)) = closed_number a n
+step_number (Err n) = refused_number n
 
 -- so many bytes, at most 255
 abbrev pub written_number : ℕ → ℕ
@@ -74,9 +74,9 @@ abbrev pub shown_number : State → ℕ → Display → ℕ
 shown_number s n d =
     packed 5 (state_number s) (bit d.unconstrained.unconstrained) d.unconstrained.available (n % 65536) (n / 65536)
 
-abbrev pub consumer_number : OptionAvailableConsumer → ℕ
-consumer_number OptionAvailableConsumer.None = packed 6 0 0 0 0 0
-consumer_number (OptionAvailableConsumer.Some c) =
+abbrev pub consumer_number : Option AvailableConsumer → ℕ
+consumer_number None = packed 6 0 0 0 0 0
+consumer_number (Some c) =
     packed 6 1 c.psu (consumer_flags_byte c.consumer_power_capability.flags)
     c.consumer_power_capability.capability.voltage_mv c.consumer_power_capability.capability.current_ma
 

@@ -1,11 +1,11 @@
 -- Results are one-to-one: of values in range, whatever was packed into a number can be told from it (docs/STATE.md).
-use Rattle.std.specs.Prelude.{ℕ, ◌<◌, ◌/◌, ◌%◌, ◌≡◌}
+use Rattle.std.specs.Prelude.{ℕ, ◌<◌, ◌/◌, ◌%◌, ◌≡◌, Err, None, Ok, Option, Result, Some}
 use Rattle.power_policy_interface.specs.Psu.{mismatch_of}
 use Rattle.power_policy_interface.specs.declared.capability.PowerCapability.{PowerCapability}
-use Rattle.power_policy_interface.specs.declared.psu.OptionMismatch.{OptionMismatch}
-use Rattle.power_policy_interface.specs.declared.psu.Result.{Result}
+use Rattle.interface_display.specs.declared.AvailableConsumer.{AvailableConsumer}
+use Rattle.power_policy_interface.specs.declared.psu.Error.{Error}
+use Rattle.power_policy_interface.specs.declared.psu.Mismatch.{Mismatch}
 use Rattle.interface_display.specs.declared.Display.{Display}
-use Rattle.interface_display.specs.declared.OptionAvailableConsumer.{OptionAvailableConsumer}
 use Rattle.interface_display.specs.declared.providers.Providers.{Providers}
 use Rattle.interface_display.specs.declared.State.{State}
 use Rattle.abstract_policy.specs.declared.order.Order.{Order}
@@ -27,17 +27,17 @@ OrderFits (Order.Detach i) = i < 256
 OrderFits Order.Wait = Unit {0}
 
 -- an InvalidState that names states expects at least one
-abbrev pub MismatchFits : OptionMismatch → Type 0
-MismatchFits OptionMismatch.None = Unit {0}
-MismatchFits (OptionMismatch.Some m) = (0 < m.expected) × (m.expected < 256)
+abbrev pub MismatchFits : Option Mismatch → Type 0
+MismatchFits None = Unit {0}
+MismatchFits (Some m) = (0 < m.expected) × (m.expected < 256)
 
-abbrev pub AnswerFits : Result → Type 0
-AnswerFits Result.Ok = Unit {0}
-AnswerFits (Result.Err e) = MismatchFits (mismatch_of e)
+abbrev pub AnswerFits : Result (Unit {0}) Error → Type 0
+AnswerFits (Ok tt) = Unit {0}
+AnswerFits (Err e) = MismatchFits (mismatch_of e)
 
-abbrev pub ConsumerFits : OptionAvailableConsumer → Type 0
-ConsumerFits OptionAvailableConsumer.None = Unit {0}
-ConsumerFits (OptionAvailableConsumer.Some c) = (c.psu < 256) × CapabilityFits c.consumer_power_capability.capability
+abbrev pub ConsumerFits : Option AvailableConsumer → Type 0
+ConsumerFits None = Unit {0}
+ConsumerFits (Some c) = (c.psu < 256) × CapabilityFits c.consumer_power_capability.capability
 
 abbrev pub ProvidersFit : Providers → Type 0
 ProvidersFit t = t.mask < 65536
@@ -51,11 +51,11 @@ pub record DisplayFits (d : Display) : Type 0 where
 pub record Outcomes : Type 0 where
   pub refused : (n : ℕ) → refused_number n % 256 ≡ 0
   pub order : (o : Order) → order_number o % 256 ≡ 1
-  pub closed : (a : Result) (n : ℕ) → closed_number a n % 256 ≡ 2
+  pub closed : (a : Result (Unit {0}) Error) (n : ℕ) → closed_number a n % 256 ≡ 2
   pub written : (n : ℕ) → written_number n % 256 ≡ 3
   pub done : done_number % 256 ≡ 4
   pub shown : (s : State) (n : ℕ) (d : Display) → shown_number s n d % 256 ≡ 5
-  pub consumer : (c : OptionAvailableConsumer) → consumer_number c % 256 ≡ 6
+  pub consumer : (c : Option AvailableConsumer) → consumer_number c % 256 ≡ 6
   pub tracked : (t : Providers) → tracked_number t % 256 ≡ 7
 
 pub record OneToOne : Type 0 where
@@ -67,7 +67,7 @@ pub record OneToOne : Type 0 where
   -- a wait's carries its milliseconds where others have mV
   pub wait : order_number Order.Wait / 4294967296 % 65536 ≡ 800
   -- equal close numbers are equal closes, after as many orders
-  pub closes : (a b : Result) (n m : ℕ) → AnswerFits a → AnswerFits b → closed_number a n ≡ closed_number b m → (a ≡ b) × (n ≡ m)
+  pub closes : (a b : Result (Unit {0}) Error) (n m : ℕ) → AnswerFits a → AnswerFits b → closed_number a n ≡ closed_number b m → (a ≡ b) × (n ≡ m)
   -- lost is told from all that is shown
   pub lost : (s : State) (n : ℕ) (d : Display) → shown_number s n d ≡ lost_number → s ≡ State.Lost
   -- the number shown stands alone in the four bytes above the figures
@@ -76,5 +76,5 @@ pub record OneToOne : Type 0 where
   pub shown :
       (s t : State) (n m : ℕ) (d e : Display) → DisplayFits d → DisplayFits e → shown_number s n d ≡ shown_number t m e →
       (s ≡ t) × (n ≡ m) × (d.unconstrained ≡ e.unconstrained)
-  pub consumer : (c d : OptionAvailableConsumer) → ConsumerFits c → ConsumerFits d → consumer_number c ≡ consumer_number d → c ≡ d
+  pub consumer : (c d : Option AvailableConsumer) → ConsumerFits c → ConsumerFits d → consumer_number c ≡ consumer_number d → c ≡ d
   pub tracked : (t u : Providers) → ProvidersFit t → ProvidersFit u → tracked_number t ≡ tracked_number u → t ≡ u

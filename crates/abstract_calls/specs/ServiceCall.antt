@@ -1,6 +1,6 @@
 -- Each call on a service's image, as one record: what it is of any functions, and what the definition says of it. A call that is added has its record here, its
 -- function in `Functions` and its case in `ByteCall` and `service_call`.
-use Rattle.std.specs.Prelude.{ℕ, Bool, not, cond, List, [], ◌∷◌, ◌++◌, ltb, length}
+use Rattle.std.specs.Prelude.{ℕ, Bool, cond, List, [], ◌∷◌, ◌++◌, ltb, length, None, Option, Some, is_none}
 use Rattle.power_policy_interface.specs.Limits.{buffer_length}
 use Rattle.abstract_policy.specs.Policy as policy
 use Rattle.abstract_policy.specs.Policy.{Call, Policy, Stand, between, at, order_at, is_at}
@@ -11,7 +11,6 @@ use Rattle.abstract_policy.specs.declared.state.Registration.{Registration}
 use Rattle.abstract_calls.specs.Functions.{Functions}
 use Rattle.abstract_calls.specs.Lent.{rows_in, packet_call, picture_call}
 use Rattle.abstract_calls.specs.Numbers.{refused_number, order_number, closed_number, step_number}
-use Rattle.abstract_calls.specs.declared.Rows.{Rows}
 
 pub record ServiceCall : Type 0 where
   -- of any functions: the image after it, what it returns, and the lent buffer before and after
@@ -32,13 +31,15 @@ pub record ServiceCall : Type 0 where
 
 -- REF-22: records of wrong length or with a field out of range
 abbrev pub wrong_rows : Registration → List ℕ → List ℕ → Bool × ℕ
-wrong_rows g psus chargers = (not (rows_in g psus chargers).ok, 22)
+wrong_rows g psus chargers = (is_none (rows_in g psus chargers), 22)
 
-abbrev pub on_rows : Rows → (Records → Call) → List Call
-on_rows r f = cond r.ok (f r.records ∷ []) []
+abbrev pub on_rows : Option Records → (Records → Call) → List Call
+on_rows None f = []
+on_rows (Some r) f = f r ∷ []
 
-abbrev pub rows_to : Rows → (Records → ℕ) → ℕ
-rows_to r f = cond r.ok (f r.records) (refused_number 22)
+abbrev pub rows_to : Option Records → (Records → ℕ) → ℕ
+rows_to None f = refused_number 22
+rows_to (Some r) f = f r
 
 abbrev pub opening : List ℕ → List ℕ → ℕ → ℕ → ℕ → ServiceCall
 opening psus chargers kind device detail = record {

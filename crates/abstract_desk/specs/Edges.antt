@@ -1,6 +1,5 @@
 -- The follower at its edges, computed: what it says after each take.
-use Rattle.std.specs.Prelude.{ℕ, List, [], ◌∷◌, ◌≡◌}
-use Rattle.std.proofs.Math.Option.{Option, none, some}
+use Rattle.std.specs.Prelude.{ℕ, List, [], ◌∷◌, ◌≡◌, None, Option, Some}
 use Rattle.interface_display.specs.declared.State.{State}
 use Rattle.wire.specs.Read.{read_packet}
 use Rattle.abstract_desk.specs.Follower.{Follower, lost, showing, fresh, state}
@@ -22,8 +21,8 @@ event3 = 0x01 ∷ 0x03 ∷ 0x07 ∷ 0x01 ∷ 0x00 ∷ []
 
 -- its state, and the number shown
 abbrev pub said : Follower → State × Option ℕ
-said (lost floor) = (State.Lost, none)
-said (showing n d held) = (state (showing n d held), some n)
+said (lost floor) = (State.Lost, None)
+said (showing n d held) = (state (showing n d held), Some n)
 
 abbrev pub said_after : Follower → List (List ℕ) → List (State × Option ℕ)
 said_after f [] = []
@@ -33,8 +32,8 @@ pub record DeskEdges : Type 0 where
   -- EDG-12: P12's five takes
   pub five_takes :
       said_after fresh (picture0 ∷ event2 ∷ event1 ∷ event1 ∷ event3 ∷ [])
-      ≡ (State.Level, some 0) ∷ (State.Waiting, some 0) ∷ (State.Level, some 2) ∷ (State.Level, some 2) ∷ (State.Lost, none) ∷ []
+      ≡ (State.Level, Some 0) ∷ (State.Waiting, Some 0) ∷ (State.Level, Some 2) ∷ (State.Level, Some 2) ∷ (State.Lost, None) ∷ []
   -- bytes that are turned back (a kind 3) change nothing
-  pub refused_stays : said_after fresh (picture0 ∷ (3 ∷ []) ∷ []) ≡ (State.Level, some 0) ∷ (State.Level, some 0) ∷ []
+  pub refused_stays : said_after fresh (picture0 ∷ (3 ∷ []) ∷ []) ≡ (State.Level, Some 0) ∷ (State.Level, Some 0) ∷ []
   -- lost, it does not go back: after event 3 the start's picture is too low
-  pub stays_lost : said_after fresh (event3 ∷ picture0 ∷ []) ≡ (State.Lost, none) ∷ (State.Lost, none) ∷ []
+  pub stays_lost : said_after fresh (event3 ∷ picture0 ∷ []) ≡ (State.Lost, None) ∷ (State.Lost, None) ∷ []

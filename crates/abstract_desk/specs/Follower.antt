@@ -1,7 +1,6 @@
 -- The abstract follower, FOL-1 to FOL-11 one by one. How a program keeps the packets that wait is no part of it; that ours does the same is promise_link
 -- specs/Alike.antt.
-use Rattle.std.specs.Prelude.{ℕ, ◌+◌, max, cond, List, [], ◌∷◌, eqb, leb, ltb}
-use Rattle.std.proofs.Math.Option.{Option, none, some}
+use Rattle.std.specs.Prelude.{ℕ, ◌+◌, max, cond, List, [], ◌∷◌, eqb, leb, ltb, None, Option, Some}
 use Rattle.power_policy_interface.specs.Limits.{window}
 use Rattle.interface_display.specs.Notices.{all_applied}
 use Rattle.interface_display.specs.declared.Display.{Display}
@@ -79,5 +78,5 @@ state (showing n d (e ∷ l)) = State.Waiting
 
 -- what is shown: nothing, or the number and the display
 abbrev pub shown : Follower → Option Picture
-shown (lost floor) = none
-shown (showing n d held) = some (record { number = n; display = d })
+shown (lost floor) = None
+shown (showing n d held) = Some (record { number = n; display = d })

@@ -1,13 +1,13 @@
 -- Takes of the follower on bytes: those that are turned back change nothing (REF-1).
-use Rattle.std.specs.Prelude.{ℕ, List, [], ◌∷◌}
+use Rattle.std.specs.Prelude.{ℕ, List, [], ◌∷◌, Err, Ok, Result}
 use Rattle.interface_records.specs.Row.{AllBytes}
 use Rattle.wire.specs.Read.{read_packet}
-use Rattle.wire.specs.declared.packet.ReadPacket.{ReadPacket}
+use Rattle.interface_display.specs.declared.packet.Packet.{Packet}
 use Rattle.abstract_desk.specs.Follower.{Follower, fresh, taken}
 
-abbrev pub read_by : Follower → ReadPacket → Follower
-read_by f (ReadPacket.Refused n) = f
-read_by f (ReadPacket.Packet p) = taken f p
+abbrev pub read_by : Follower → Result Packet ℕ → Follower
+read_by f (Err n) = f
+read_by f (Ok p) = taken f p
 
 abbrev pub takes_by : Follower → List (List ℕ) → Follower
 takes_by f [] = f

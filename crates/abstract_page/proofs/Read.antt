@@ -1,6 +1,7 @@
 -- A page is read as what it says: blanks are trimmed off, a text that begins with a digit is no hyphen and no word, and the digits of a number are
 -- read as the number.
 -- Assumes nothing.
+use Rattle.std.specs.Prelude.{None, Option, Some}
 use mathlib.Core.Path.{◌≡◌, refl, ap, sym, ◌∙◌}
 use mathlib.Core.Bool.{Bool, true, false, cond, ◌&&◌}
 use mathlib.Core.List.{List, [], ◌∷◌, ◌++◌, append-nil, append_assoc}
@@ -15,7 +16,6 @@ use Rattle.power_policy_interface.proofs.Conjunction.{and_left, and_right}
 use Rattle.interface_display.specs.Providers.{len, max_connected_providers}
 use Rattle.interface_display.specs.declared.AvailableConsumer.{AvailableConsumer}
 use Rattle.interface_display.specs.declared.Display.{Display}
-use Rattle.interface_display.specs.declared.OptionAvailableConsumer.{OptionAvailableConsumer}
 use Rattle.interface_display.specs.declared.State.{State}
 use Rattle.interface_display.specs.declared.providers.Providers.{Providers}
 use Rattle.wire.specs.Bytes.{ports_from, ports_bytes}
@@ -150,10 +150,10 @@ lines_length (e ∷ l) = omega (arith, length-append (line e) (lines l), line_le
 one_fits : (n : ℕ) → n < 10 ^ 10 → FigureFits (one n)
 one_fits n h = ((omega arith, tt), omega (arith, length_short 9 n h))
 
-consumer_fits_lem : (f : AvailableConsumer → ℕ) (c : OptionAvailableConsumer) → ((a : AvailableConsumer) → consumer_fits (OptionAvailableConsumer.Some a) ≡ true → f a < 10 ^ 10)
+consumer_fits_lem : (f : AvailableConsumer → ℕ) (c : Option AvailableConsumer) → ((a : AvailableConsumer) → consumer_fits (Some a) ≡ true → f a < 10 ^ 10)
     → consumer_fits c ≡ true → FigureFits (of_consumer f c)
-consumer_fits_lem f OptionAvailableConsumer.None h e = tt
-consumer_fits_lem f (OptionAvailableConsumer.Some a) h e = one_fits (f a) (h a e)
+consumer_fits_lem f None h e = tt
+consumer_fits_lem f (Some a) h e = one_fits (f a) (h a e)
 
 ports_below : (n p m : ℕ) → EachBelow (p + n) (ports_from n p m)
 ports_below zero p m = tt
@@ -194,7 +194,7 @@ module _ (s : State) (n : ℕ) (d : Display) (h : picture_fits (record { number 
   few : leb (len d.providers) max_connected_providers ≡ true
   few = and_right (ltb d.providers.mask 65536) _ (and_right (leb d.unconstrained.available max_ports) _ (and_right (consumer_fits d.consumer) _ display_fits))
 
-  of_consumer_lem : (f : AvailableConsumer → ℕ) → ((a : AvailableConsumer) → consumer_fits (OptionAvailableConsumer.Some a) ≡ true → f a < 10 ^ 10)
+  of_consumer_lem : (f : AvailableConsumer → ℕ) → ((a : AvailableConsumer) → consumer_fits (Some a) ≡ true → f a < 10 ^ 10)
       → FigureFits (of_consumer f d.consumer)
   of_consumer_lem f h = consumer_fits_lem f d.consumer h (and_left (consumer_fits d.consumer) _ display_fits)
 

@@ -1,9 +1,10 @@
 -- Equal pages tell the same: what is read from them is equal, entry by entry, and each figure is one of the follower's.
 -- Assumes nothing.
+use Rattle.std.specs.Prelude.{None, Option, Some}
 use mathlib.Core.Path.{◌≡◌, refl, ap, sym, ◌∙◌}
 use mathlib.Core.Bool.{true}
 use mathlib.Core.List.{List, [], ◌∷◌}
-use mathlib.Core.Option.{some}
+use Rattle.interface_display.specs.declared.AvailableConsumer.{AvailableConsumer}
 use Prim.Native.Nat.{ℕ, zero, suc, ◌<◌}
 use native.Mathlib.Omega.{arith}
 use lib.Dec.{leb, ltb}
@@ -13,7 +14,6 @@ use Rattle.power_policy_interface.specs.Limits.{largest, max_ports}
 use Rattle.power_policy_interface.proofs.Conjunction.{and_left, and_right}
 use Rattle.interface_display.specs.Providers.{len}
 use Rattle.interface_display.specs.declared.Display.{Display}
-use Rattle.interface_display.specs.declared.OptionAvailableConsumer.{OptionAvailableConsumer}
 use Rattle.interface_display.specs.declared.providers.Providers.{Providers}
 use Rattle.interface_display.specs.declared.State.{State}
 use Rattle.wire.specs.Bytes.{ports_bytes}
@@ -39,16 +39,16 @@ absent_or_one n e = absurd (let z : ◌≡◌ {A = ℕ} 0 1 = cc in omega arith)
 one_one : (n m : ℕ) → one n ≡ one m → n ≡ m
 one_one n m e = cc
 
-consumer_same : (c k : OptionAvailableConsumer) → of_consumer (λ a. a.psu) c ≡ of_consumer (λ a. a.psu) k → of_consumer millivolts c ≡ of_consumer millivolts k
+consumer_same : (c k : Option AvailableConsumer) → of_consumer (λ a. a.psu) c ≡ of_consumer (λ a. a.psu) k → of_consumer millivolts c ≡ of_consumer millivolts k
     → of_consumer milliamps c ≡ of_consumer milliamps k → consumed c ≡ consumed k
-consumer_same OptionAvailableConsumer.None OptionAvailableConsumer.None p v a = refl
-consumer_same OptionAvailableConsumer.None (OptionAvailableConsumer.Some k) p v a = absent_or_one k.psu p
-consumer_same (OptionAvailableConsumer.Some c) OptionAvailableConsumer.None p v a = absent_or_one c.psu (sym p)
-consumer_same (OptionAvailableConsumer.Some c) (OptionAvailableConsumer.Some k) p v a =
+consumer_same None None p v a = refl
+consumer_same None (Some k) p v a = absent_or_one k.psu p
+consumer_same (Some c) None p v a = absent_or_one c.psu (sym p)
+consumer_same (Some c) (Some k) p v a =
     let x = one_one c.psu k.psu p in
     let y = one_one (millivolts c) (millivolts k) v in
     let z = one_one (milliamps c) (milliamps k) a in
-    λ i. some (x i, y i, z i)
+    λ i. Some (x i, y i, z i)
 
 ports_same : (l k : List ℕ) → ports l ≡ ports k → l ≡ k
 ports_same [] [] e = refl
@@ -84,7 +84,7 @@ same_told (desk.showing n c v) (desk.showing m d w) h k e =
     let s : desk.state (desk.showing n c v) ≡ desk.state (desk.showing m d w) = states (desk.state (desk.showing n c v)) (desk.state (desk.showing m d w)) (ap (figure 1) e) in
     let a = consumer_same c.consumer d.consumer (ap (figure 2) e) (ap (figure 3) e) (ap (figure 4) e) in
     let t = tracked_same c.providers d.providers (mask_fits n c h) (mask_fits m d k) (ports_same (ports_bytes c.providers.mask) (ports_bytes d.providers.mask) (ap (figure 5) e)) in
-    λ i. some (x i, s i, a i, t i)
+    λ i. Some (x i, s i, a i, t i)
   where
     states : (s t : State) → state s ≡ state t → s ≡ t
     states s t e = cc

@@ -1,8 +1,7 @@
 -- The page of a follower (S1): six lines, each a name and a figure.
-use Rattle.std.specs.Prelude.{ℕ, true, List, [], ◌∷◌, ◌++◌, ◌≡◌}
+use Rattle.std.specs.Prelude.{ℕ, true, List, [], ◌∷◌, ◌++◌, ◌≡◌, None, Option, Some}
 use Rattle.interface_display.specs.declared.AvailableConsumer.{AvailableConsumer}
 use Rattle.interface_display.specs.declared.Display.{Display}
-use Rattle.interface_display.specs.declared.OptionAvailableConsumer.{OptionAvailableConsumer}
 use Rattle.interface_display.specs.declared.State.{State}
 use Rattle.wire.specs.Bytes.{ports_bytes}
 use Rattle.wire.specs.WellFormed.{picture_fits}
@@ -84,9 +83,9 @@ abbrev pub milliamps : AvailableConsumer → ℕ
 milliamps c = c.consumer_power_capability.capability.current_ma
 
 -- a figure of the consumer, absent without one
-abbrev pub of_consumer : (AvailableConsumer → ℕ) → OptionAvailableConsumer → Figure
-of_consumer f OptionAvailableConsumer.None = absent
-of_consumer f (OptionAvailableConsumer.Some c) = one (f c)
+abbrev pub of_consumer : (AvailableConsumer → ℕ) → Option AvailableConsumer → Figure
+of_consumer f None = absent
+of_consumer f (Some c) = one (f c)
 
 -- S1-4: an empty set is absent
 abbrev pub ports : List ℕ → Figure

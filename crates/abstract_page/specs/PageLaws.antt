@@ -1,8 +1,7 @@
 -- What holds of every page (proofs/Read.antt, Same.antt).
-use Rattle.std.specs.Prelude.{ℕ, [], ◌∷◌, ◌≡◌, drop, length as count}
-use Rattle.std.proofs.Math.Option.{Option, none, some}
+use Rattle.std.specs.Prelude.{ℕ, [], ◌∷◌, ◌≡◌, drop, length as count, None, Option, Some}
+use Rattle.interface_display.specs.declared.AvailableConsumer.{AvailableConsumer}
 use Rattle.power_policy_interface.specs.Limits.{page_length}
-use Rattle.interface_display.specs.declared.OptionAvailableConsumer.{OptionAvailableConsumer}
 use Rattle.interface_display.specs.declared.providers.Providers.{Providers}
 use Rattle.interface_display.specs.declared.State.{State}
 use Rattle.abstract_desk.specs.Follower.{Follower, lost, showing, state}
@@ -12,13 +11,13 @@ use Rattle.abstract_page.specs.Text.{newline}
 
 -- what a page tells: nothing if lost, else number, state, the consumer's port, mV and mA, and the tracked ports
 
-abbrev pub consumed : OptionAvailableConsumer → Option (ℕ × ℕ × ℕ)
-consumed OptionAvailableConsumer.None = none
-consumed (OptionAvailableConsumer.Some c) = some (c.psu, millivolts c, milliamps c)
+abbrev pub consumed : Option AvailableConsumer → Option (ℕ × ℕ × ℕ)
+consumed None = None
+consumed (Some c) = Some (c.psu, millivolts c, milliamps c)
 
 abbrev pub told : Follower → Option (ℕ × State × Option (ℕ × ℕ × ℕ) × Providers)
-told (lost floor) = none
-told (showing n d held) = some (n, state (showing n d held), consumed d.consumer, d.providers)
+told (lost floor) = None
+told (showing n d held) = Some (n, state (showing n d held), consumed d.consumer, d.providers)
 
 pub record PageLaws : Type 0 where
   -- S1-1: six lines, each of 40 columns and a newline, 246 bytes in all

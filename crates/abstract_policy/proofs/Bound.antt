@@ -1,5 +1,6 @@
 -- Every event closes after at most 3 + 4 × chargers orders: each loop asks at most one order (detach) or three (ready, init, attach) a
 -- charger, and beside them there are a disconnect, a connect and a wait.
+use Rattle.std.specs.Prelude.{Err, None, Ok, Option, Result, Some}
 use mathlib.Core.Path.{◌≡◌, refl}
 use mathlib.Core.Bool.{Bool, true, false, cond}
 use mathlib.Core.List.{[], ◌∷◌}
@@ -10,15 +11,12 @@ use lib.ListN.{length}
 use Rattle.power_policy_interface.specs.Psu.{can_connect_consumer_of, can_connect_provider_of}
 use Rattle.power_policy_interface.specs.Service.{same_unconstrained}
 use Rattle.power_policy_interface.specs.declared.capability.DisconnectFlags.{DisconnectFlags}
-use Rattle.power_policy_interface.specs.declared.capability.OptionProviderPowerCapability.{OptionProviderPowerCapability}
+use Rattle.power_policy_interface.specs.declared.psu.Error.{Error}
 use Rattle.power_policy_interface.specs.declared.capability.ProviderPowerCapability.{ProviderPowerCapability}
-use Rattle.power_policy_interface.specs.declared.psu.Result.{Result}
 use Rattle.power_policy_interface.specs.declared.psu.event.EventData.{EventData}
 use Rattle.power_policy_interface.specs.declared.service.event.Event.{Event}
-use Rattle.interface_display.specs.Providers.{insert_of, remove_of}
+use Rattle.interface_display.specs.Providers.{insert_of, remove_of, Removed}
 use Rattle.interface_display.specs.declared.AvailableConsumer.{AvailableConsumer}
-use Rattle.interface_display.specs.declared.OptionAvailableConsumer.{OptionAvailableConsumer}
-use Rattle.interface_display.specs.declared.providers.Removed.{Removed}
 use Rattle.power_policy_service.specs.Provider.{total_of, total_with, power_state_of, grant_of}
 use Rattle.abstract_policy.specs.State.{with_consumer, with_unconstrained, with_providers, with_power_state, psu_of, charger_unpowered}
 use Rattle.abstract_policy.specs.Interaction.{no_reason, detached_reason, reason_of, unconstrained_of, same_available, is_connected_consumer, update_unconstrained_state, attach_charger, post_consumer_connected, detach_charger, disconnect_chargers, disconnect_current, connect_consumer, connect_new_consumer, connect_best, find_best_consumer, update_current_consumer, post_provider_connected, provide, connect_provider, remove_provider, post_provider_removed, process_psu_event, close, event}
@@ -79,13 +77,13 @@ skips = record { cost = λ j t e h r k p. free j t (k tt h r) e (p h r) }
 the_one : (j t : ℕ) → t ≡ 1 + j → t ≡ suc j
 the_one j t e = omega arith
 
-psu_answer : (a : Result) (j : ℕ) (h : Held) (r : Records) (k : Unit {0} → Held → Records → Interaction) → AtMost j (k tt h r) → AtMost j (ok a h r k)
-psu_answer Result.Ok j h r k p = p
-psu_answer (Result.Err x) j h r k p = tt
+psu_answer : (a : Result (Unit {0}) Error) (j : ℕ) (h : Held) (r : Records) (k : Unit {0} → Held → Records → Interaction) → AtMost j (k tt h r) → AtMost j (ok a h r k)
+psu_answer (Ok tt) j h r k p = p
+psu_answer (Err x) j h r k p = tt
 
-charger_answer : (a : Result) (j : ℕ) (h : Held) (r : Records) (k : Unit {0} → Held → Records → Interaction) → AtMost j (k tt h r) → AtMost j (charger_ok a h r k)
-charger_answer Result.Ok j h r k p = p
-charger_answer (Result.Err x) j h r k p = tt
+charger_answer : (a : Result (Unit {0}) Error) (j : ℕ) (h : Held) (r : Records) (k : Unit {0} → Held → Records → Interaction) → AtMost j (k tt h r) → AtMost j (charger_ok a h r k)
+charger_answer (Ok tt) j h r k p = p
+charger_answer (Err x) j h r k p = tt
 
 asks_psu : (o : Order) → Costs 1 (psu o)
 asks_psu o = record { cost = λ j t e h r k p. rw (the_one j t e) (λ a r'. psu_answer a j h r' k (p h r')) }
@@ -110,9 +108,9 @@ each_costs : (c n i : ℕ) (f : ℕ → Action (Unit {0})) → ((x : ℕ) → Co
 each_costs c zero i f p = dearer (0 * c) (omega arith) skips
 each_costs c (suc n) i f p = dearer (suc n * c) (omega (arith, suc-mul n c)) (then (p i) (each_costs c n (suc i) f p))
 
-ok_costs : (a : Result) → Costs 0 (ok a)
-ok_costs Result.Ok = skips
-ok_costs (Result.Err e) = record { cost = λ j t q h r k p. tt }
+ok_costs : (a : Result (Unit {0}) Error) → Costs 0 (ok a)
+ok_costs (Ok tt) = skips
+ok_costs (Err e) = record { cost = λ j t q h r k p. tt }
 
 set_costs : (f : InternalState → InternalState) → Costs 0 (set f)
 set_costs f = record { cost = λ j t e h r k p. free j t (set f h r k) e (p _ r) }
@@ -152,7 +150,7 @@ chargers_cost g = each_costs 1 g.chargers 0 detach_charger detach_costs
 connected_costs : (g : Registration) (new : AvailableConsumer) → Costs (1 + g.chargers * 3) (post_consumer_connected g new)
 unfolding post_consumer_connected
 connected_costs g new =
-    first (set_costs (with_consumer (OptionAvailableConsumer.Some new)))
+    first (set_costs (with_consumer (Some new)))
     (waits
     (last (each_costs 3 g.chargers 0 (attach_charger new) (attach_costs new))
     (notify_costs (Event.ConsumerConnected new.psu new.consumer_power_capability))))
@@ -178,26 +176,26 @@ gives_way g current new f =
 
 current_costs : (g : Registration) (current new : AvailableConsumer) (f : DisconnectFlags) → Costs (1 + g.chargers * 1) (disconnect_current g current new f)
 unfolding disconnect_current
-current_costs g current new f = first (set_costs (with_consumer OptionAvailableConsumer.None)) (gives_way g current new f)
+current_costs g current new f = first (set_costs (with_consumer None)) (gives_way g current new f)
 
-new_costs : (g : Registration) (current : OptionAvailableConsumer) (new : AvailableConsumer) (f : DisconnectFlags) →
+new_costs : (g : Registration) (current : Option AvailableConsumer) (new : AvailableConsumer) (f : DisconnectFlags) →
     Costs (3 + 4 * g.chargers) (connect_new_consumer g current new f)
 unfolding connect_new_consumer
-new_costs g OptionAvailableConsumer.None new f = dearer (3 + 4 * g.chargers) (omega arith) (connect_costs g new)
-new_costs g (OptionAvailableConsumer.Some current) new f =
+new_costs g None new f = dearer (3 + 4 * g.chargers) (omega arith) (connect_costs g new)
+new_costs g (Some current) new f =
     unless_costs (same_available current new)
     (dearer (3 + 4 * g.chargers) (omega arith) (then (current_costs g current new f) (connect_costs g new)))
 
-best_costs : (g : Registration) (best current : OptionAvailableConsumer) (f : DisconnectFlags) →
+best_costs : (g : Registration) (best current : Option AvailableConsumer) (f : DisconnectFlags) →
     Costs (3 + 4 * g.chargers) (connect_best g best current f)
 unfolding connect_best
-best_costs g (OptionAvailableConsumer.Some new) current f = new_costs g current new f
-best_costs g OptionAvailableConsumer.None OptionAvailableConsumer.None f =
-    dearer (3 + 4 * g.chargers) (omega arith) (set_costs (with_consumer OptionAvailableConsumer.None))
-best_costs g OptionAvailableConsumer.None (OptionAvailableConsumer.Some current) f =
+best_costs g (Some new) current f = new_costs g current new f
+best_costs g None None f =
+    dearer (3 + 4 * g.chargers) (omega arith) (set_costs (with_consumer None))
+best_costs g None (Some current) f =
     dearer (3 + 4 * g.chargers) (omega arith)
     (last (chargers_cost g)
-    (first (notify_costs (Event.ConsumerDisconnected current.psu f)) (set_costs (with_consumer OptionAvailableConsumer.None))))
+    (first (notify_costs (Event.ConsumerDisconnected current.psu f)) (set_costs (with_consumer None))))
 
 -- the update, whatever came before it
 pub update_costs : (g : Registration) (f : DisconnectFlags) → Costs (3 + 4 * g.chargers) (update_current_consumer g f)
@@ -212,10 +210,10 @@ provided_costs p c =
     reads (λ s r. set (with_providers (insert_of s.connected_providers p).providers) >> notify (Event.ProviderConnected p c)) (λ h r k. refl)
     (λ s r. first (set_costs (with_providers (insert_of s.connected_providers p).providers)) (notify_costs (Event.ProviderConnected p c)))
 
-provide_costs : (g : Registration) (p : ℕ) (q : OptionProviderPowerCapability) → Costs 1 (provide g p q)
+provide_costs : (g : Registration) (p : ℕ) (q : Option ProviderPowerCapability) → Costs 1 (provide g p q)
 unfolding provide
-provide_costs g p OptionProviderPowerCapability.None = dearer 1 (omega arith) skips
-provide_costs g p (OptionProviderPowerCapability.Some q) =
+provide_costs g p None = dearer 1 (omega arith) skips
+provide_costs g p (Some q) =
     reads
     (λ s r.
     let w = power_state_of g.config (total_with p q r.psus (min 16 g.ports)) in

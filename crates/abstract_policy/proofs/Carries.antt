@@ -1,12 +1,12 @@
 -- An event's notices lead from what was held before it to what is held when it closes without error: each change of the state has its notice
 -- after it, and between the two only a device's error can end the event. In the logic of actions of Logic.antt.
+use Rattle.std.specs.Prelude.{None, Option, Some}
 use mathlib.Core.Path.{◌≡◌, refl, sym, ap, ◌∙◌}
 use mathlib.Core.Bool.{Bool, true, false}
 use mathlib.Core.List.{List, [], ◌∷◌, ◌++◌}
 use Prim.Native.Nat.{ℕ, min}
 use Rattle.power_policy_interface.specs.Psu.{can_connect_provider_of}
 use Rattle.power_policy_interface.specs.declared.capability.DisconnectFlags.{DisconnectFlags}
-use Rattle.power_policy_interface.specs.declared.capability.OptionProviderPowerCapability.{OptionProviderPowerCapability}
 use Rattle.power_policy_interface.specs.declared.capability.ProviderPowerCapability.{ProviderPowerCapability}
 use Rattle.power_policy_interface.specs.declared.psu.event.EventData.{EventData}
 use Rattle.power_policy_interface.specs.declared.service.event.Event.{Event}
@@ -15,7 +15,6 @@ use Rattle.interface_display.specs.Notices.{applied_all}
 use Rattle.interface_display.specs.Providers.{insert_of, remove_of}
 use Rattle.interface_display.specs.declared.AvailableConsumer.{AvailableConsumer}
 use Rattle.interface_display.specs.declared.Display.{Display}
-use Rattle.interface_display.specs.declared.OptionAvailableConsumer.{OptionAvailableConsumer}
 use Rattle.interface_display.specs.declared.providers.Providers.{Providers}
 use Rattle.power_policy_service.specs.Provider.{total_of, total_with, power_state_of, grant_of}
 use Rattle.power_policy_service.specs.declared.provider.PowerState.{PowerState}
@@ -40,53 +39,53 @@ module _ (d : Display) where
   Old h = Leads d h
 
   -- the state's consumer is c already, its notice is still to come
-  abbrev Ahead : OptionAvailableConsumer → Held → Type 0
+  abbrev Ahead : Option AvailableConsumer → Held → Type 0
   Ahead c h = display_of h.state ≡ set_consumer (applied_all h.notices d) c
 
-  ahead : (c : OptionAvailableConsumer) → SetsTo (with_consumer c) Old (Ahead c)
+  ahead : (c : Option AvailableConsumer) → SetsTo (with_consumer c) Old (Ahead c)
   ahead c h p = ap (λ (x : Display). set_consumer x c) p
 
-  told_none : (p : ℕ) (f : DisconnectFlags) → TellsTo (Event.ConsumerDisconnected p f) (Ahead OptionAvailableConsumer.None) Old
+  told_none : (p : ℕ) (f : DisconnectFlags) → TellsTo (Event.ConsumerDisconnected p f) (Ahead None) Old
   told_none p f h q = q ∙ sym (applied_last h.notices (Event.ConsumerDisconnected p f) d)
 
-  told_new : (c : AvailableConsumer) → TellsTo (connected_event c) (Ahead (OptionAvailableConsumer.Some c)) Old
+  told_new : (c : AvailableConsumer) → TellsTo (connected_event c) (Ahead (Some c)) Old
   told_new c h q = q ∙ sym (applied_last h.notices (connected_event c) d)
 
   connect : (g : Registration) (new : AvailableConsumer) → From Old (connect_consumer g new) Old
   connect g new =
-      connects {P = Old} {A = Ahead (OptionAvailableConsumer.Some new)} {Q = Old} g new (ahead (OptionAvailableConsumer.Some new)) (told_new new)
+      connects {P = Old} {A = Ahead (Some new)} {Q = Old} g new (ahead (Some new)) (told_new new)
 
   disconnect : (g : Registration) (current new : AvailableConsumer) (f : DisconnectFlags) → From Old (disconnect_current g current new f) Old
   disconnect g current new f =
-      disconnects {P = Old} {A = Ahead OptionAvailableConsumer.None} {Q = Old} g current new f (ahead OptionAvailableConsumer.None)
+      disconnects {P = Old} {A = Ahead None} {Q = Old} g current new f (ahead None)
       (told_none current.psu (reason_of current.psu new f))
 
-  news : (g : Registration) (current : OptionAvailableConsumer) (new : AvailableConsumer) (f : DisconnectFlags) → From Old (connect_new_consumer g current new f) Old
+  news : (g : Registration) (current : Option AvailableConsumer) (new : AvailableConsumer) (f : DisconnectFlags) → From Old (connect_new_consumer g current new f) Old
   unfolding connect_new_consumer
-  news g OptionAvailableConsumer.None new f = connect g new
-  news g (OptionAvailableConsumer.Some current) new f = unlesses (same_available current new) (then (disconnect g current new f) (connect g new))
+  news g None new f = connect g new
+  news g (Some current) new f = unlesses (same_available current new) (then (disconnect g current new f) (connect g new))
 
   -- no consumer is left: told of first, changed then
 
   abbrev Behind : Held → Type 0
-  Behind h = set_consumer (display_of h.state) OptionAvailableConsumer.None ≡ applied_all h.notices d
+  Behind h = set_consumer (display_of h.state) None ≡ applied_all h.notices d
 
   behind : (p : ℕ) (f : DisconnectFlags) → TellsTo (Event.ConsumerDisconnected p f) Old Behind
   behind p f h q =
-      ap (λ (x : Display). set_consumer x OptionAvailableConsumer.None) q ∙ sym (applied_last h.notices (Event.ConsumerDisconnected p f) d)
+      ap (λ (x : Display). set_consumer x None) q ∙ sym (applied_last h.notices (Event.ConsumerDisconnected p f) d)
 
-  bests : (g : Registration) (best current : OptionAvailableConsumer) (f : DisconnectFlags) →
+  bests : (g : Registration) (best current : Option AvailableConsumer) (f : DisconnectFlags) →
       From (λ h. Old h × (h.state.current_consumer_state ≡ current)) (connect_best g best current f) Old
   unfolding connect_best
-  bests g (OptionAvailableConsumer.Some new) current f = record { goes = λ C h r k p q. (news g current new f).goes C h r k p.0 q }
-  bests g OptionAvailableConsumer.None OptionAvailableConsumer.None f =
-      sets (with_consumer OptionAvailableConsumer.None)
-      (λ h p. ap (λ (c : OptionAvailableConsumer). display_of (with_consumer c h.state)) (sym p.1) ∙ p.0)
-  bests g OptionAvailableConsumer.None (OptionAvailableConsumer.Some current) f = record {
+  bests g (Some new) current f = record { goes = λ C h r k p q. (news g current new f).goes C h r k p.0 q }
+  bests g None None f =
+      sets (with_consumer None)
+      (λ h p. ap (λ (c : Option AvailableConsumer). display_of (with_consumer c h.state)) (sym p.1) ∙ p.0)
+  bests g None (Some current) f = record {
     goes = λ C h r k p q.
         (then (chargers_left {P = Old} g)
         (then (notifies (Event.ConsumerDisconnected current.psu f) (behind current.psu f))
-        (sets {P = Behind} {Q = Old} (with_consumer OptionAvailableConsumer.None) (λ h' z. z)))).goes C h r k p.0 q;
+        (sets {P = Behind} {Q = Old} (with_consumer None) (λ h' z. z)))).goes C h r k p.0 q;
   }
 
   -- the unconstrained figures
@@ -125,10 +124,10 @@ module _ (d : Display) where
       ∙ ap (λ (x : Display). set_providers x (insert_of x.providers p).providers) z.0))
       (notifies (Event.ProviderConnected p c) (λ h z. z ∙ sym (applied_last h.notices (Event.ProviderConnected p c) d))))
 
-  provides : (g : Registration) (p : ℕ) (q : OptionProviderPowerCapability) → From Old (provide g p q) Old
+  provides : (g : Registration) (p : ℕ) (q : Option ProviderPowerCapability) → From Old (provide g p q) Old
   unfolding provide
-  provides g p OptionProviderPowerCapability.None = skips
-  provides g p (OptionProviderPowerCapability.Some q) =
+  provides g p None = skips
+  provides g p (Some q) =
       reads
       (λ s r.
       let w = power_state_of g.config (total_with p q r.psus (min 16 g.ports)) in

@@ -1,5 +1,6 @@
 -- An event that updates the consumer leaves the best one of the records that it was opened with: the new one is recorded and nothing after that
 -- changes it, no order comes before the choice, and a consumer that is left alone equals the best.
+use Rattle.std.specs.Prelude.{None, Option, Some}
 use mathlib.Core.Path.{◌≡◌, refl, sym, subst}
 use mathlib.Core.Bool.{Bool, true, false}
 use mathlib.Core.List.{[]}
@@ -11,10 +12,8 @@ use Rattle.power_policy_interface.specs.declared.capability.DisconnectFlags.{Dis
 use Rattle.power_policy_interface.specs.declared.psu.event.EventData.{EventData}
 use Rattle.power_policy_interface.specs.declared.service.event.Event.{Event}
 use Rattle.power_policy_interface.proofs.Same.{consumer_eq}
-use Rattle.interface_display.specs.Providers.{remove_of}
+use Rattle.interface_display.specs.Providers.{remove_of, Removed}
 use Rattle.interface_display.specs.declared.AvailableConsumer.{AvailableConsumer}
-use Rattle.interface_display.specs.declared.OptionAvailableConsumer.{OptionAvailableConsumer}
-use Rattle.interface_display.specs.declared.providers.Removed.{Removed}
 use Rattle.power_policy_service.specs.Consumer.{best_of}
 use Rattle.power_policy_service.specs.Provider.{total_of, power_state_of}
 use Rattle.abstract_policy.specs.State.{with_consumer, with_providers, with_power_state}
@@ -36,41 +35,41 @@ same_available_lem a b t =
 
 -- the new one is recorded, whatever was held
 connect_chooses : (P : Held → Type 0) (g : Registration) (new : AvailableConsumer) →
-    From P (connect_consumer g new) (Consumes (OptionAvailableConsumer.Some new))
+    From P (connect_consumer g new) (Consumes (Some new))
 connect_chooses P g new =
-    connects {P = P} {A = Consumes (OptionAvailableConsumer.Some new)} {Q = Consumes (OptionAvailableConsumer.Some new)} g new (λ h p. refl) (λ h p. p)
+    connects {P = P} {A = Consumes (Some new)} {Q = Consumes (Some new)} g new (λ h p. refl) (λ h p. p)
 
 disconnect_leaves : (P : Held → Type 0) (g : Registration) (current new : AvailableConsumer) (f : DisconnectFlags) →
-    From P (disconnect_current g current new f) (Consumes OptionAvailableConsumer.None)
+    From P (disconnect_current g current new f) (Consumes None)
 disconnect_leaves P g current new f =
-    disconnects {P = P} {A = Consumes OptionAvailableConsumer.None} {Q = Consumes OptionAvailableConsumer.None} g current new f (λ h p. refl) (λ h p. p)
+    disconnects {P = P} {A = Consumes None} {Q = Consumes None} g current new f (λ h p. refl) (λ h p. p)
 
-new_chosen : (g : Registration) (current : OptionAvailableConsumer) (new : AvailableConsumer) (f : DisconnectFlags) →
-    From (Consumes current) (connect_new_consumer g current new f) (Consumes (OptionAvailableConsumer.Some new))
+new_chosen : (g : Registration) (current : Option AvailableConsumer) (new : AvailableConsumer) (f : DisconnectFlags) →
+    From (Consumes current) (connect_new_consumer g current new f) (Consumes (Some new))
 unfolding connect_new_consumer
-new_chosen g OptionAvailableConsumer.None new f = connect_chooses (Consumes OptionAvailableConsumer.None) g new
-new_chosen g (OptionAvailableConsumer.Some current) new f = go (same_available current new) (same_available_lem current new)
+new_chosen g None new f = connect_chooses (Consumes None) g new
+new_chosen g (Some current) new f = go (same_available current new) (same_available_lem current new)
   where
     -- whatever the test, if it is true only of equal ones
     go : (b : Bool) → (T b → current ≡ new) →
-        From (Consumes (OptionAvailableConsumer.Some current)) (unless b (disconnect_current g current new f >> connect_consumer g new))
-        (Consumes (OptionAvailableConsumer.Some new))
-    go true e = subst (λ c. From (Consumes (OptionAvailableConsumer.Some current)) skip (Consumes (OptionAvailableConsumer.Some c))) (e tt) skips
+        From (Consumes (Some current)) (unless b (disconnect_current g current new f >> connect_consumer g new))
+        (Consumes (Some new))
+    go true e = subst (λ c. From (Consumes (Some current)) skip (Consumes (Some c))) (e tt) skips
     go false e =
-        then (disconnect_leaves (Consumes (OptionAvailableConsumer.Some current)) g current new f)
-        (connect_chooses (Consumes OptionAvailableConsumer.None) g new)
+        then (disconnect_leaves (Consumes (Some current)) g current new f)
+        (connect_chooses (Consumes None) g new)
 
-best_chosen : (g : Registration) (best current : OptionAvailableConsumer) (f : DisconnectFlags) →
+best_chosen : (g : Registration) (best current : Option AvailableConsumer) (f : DisconnectFlags) →
     From (Consumes current) (connect_best g best current f) (Consumes best)
 unfolding connect_best
-best_chosen g (OptionAvailableConsumer.Some best) current f = new_chosen g current best f
-best_chosen g OptionAvailableConsumer.None OptionAvailableConsumer.None f = sets (with_consumer OptionAvailableConsumer.None) (λ h p. refl)
-best_chosen g OptionAvailableConsumer.None (OptionAvailableConsumer.Some current) f =
+best_chosen g (Some best) current f = new_chosen g current best f
+best_chosen g None None f = sets (with_consumer None) (λ h p. refl)
+best_chosen g None (Some current) f =
     then (chargers_left g)
-    (then (notifies {Q = Consumes (OptionAvailableConsumer.Some current)} (Event.ConsumerDisconnected current.psu f) (λ h p. p))
-    (sets (with_consumer OptionAvailableConsumer.None) (λ h p. refl)))
+    (then (notifies {Q = Consumes (Some current)} (Event.ConsumerDisconnected current.psu f) (λ h p. p))
+    (sets (with_consumer None) (λ h p. refl)))
 
-figures_keep : (c : OptionAvailableConsumer) (g : Registration) → From (Consumes c) (update_unconstrained_state g) (Consumes c)
+figures_keep : (c : Option AvailableConsumer) (g : Registration) → From (Consumes c) (update_unconstrained_state g) (Consumes c)
 figures_keep c g = figures {P = Consumes c} {A = λ u. Consumes c} g (λ u h p. p) (λ u h p. p)
 
 -- the update, whatever came before it: from the consumer of s, by the records that it is given, it leaves the best

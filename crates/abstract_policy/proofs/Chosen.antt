@@ -1,5 +1,6 @@
 -- While an event is open no other is accepted, and what is left of it ends with the consumer that it chose (Chooses.antt); once it has
 -- closed, what is held stays until the next close; and that choice is DEM-2c's (power_policy_service Choice.antt).
+use Rattle.std.specs.Prelude.{Ok, Option}
 use mathlib.Core.Path.{◌≡◌, refl, sym, ap, ◌∙◌, subst}
 use mathlib.Core.Bool.{Bool, true, false, cond, ◌||◌, true≢false}
 use mathlib.Core.List.{List, [], ◌∷◌, ◌++◌}
@@ -7,8 +8,7 @@ use Prim.Native.Nat.{ℕ, suc, min, ◌≤◌}
 use native.Mathlib.Omega.{arith}
 use lib.Dec.{eqb}
 use borrow.Author.Tests.{eqb-true}
-use Rattle.power_policy_interface.specs.declared.psu.Result.{Result}
-use Rattle.interface_display.specs.declared.OptionAvailableConsumer.{OptionAvailableConsumer}
+use Rattle.interface_display.specs.declared.AvailableConsumer.{AvailableConsumer}
 use Rattle.power_policy_service.specs.Choice.{Chosen}
 use Rattle.power_policy_service.specs.Consumer.{best_of}
 use Rattle.power_policy_service.proofs.Choice.{chosen}
@@ -71,19 +71,19 @@ no_second false false d e = absurd (omega (arith, e))
 -- an event opened at number n that is to leave the consumer c
 
 -- what is left of it ends with c
-abbrev Left : OptionAvailableConsumer → Stand → Type 0
+abbrev Left : Option AvailableConsumer → Stand → Type 0
 Left c between = ⊥
 Left c (at m o k) = Chooses c (ask o k)
 
-module _ (n : ℕ) (c : OptionAvailableConsumer) where
+module _ (n : ℕ) (c : Option AvailableConsumer) where
   -- the numbers only rise; at n the event is open; at the next number it has closed, with c if without error
   record Since (p : Policy) : Type 0 where
     reached : n ≤ p.number
     open-left : p.number ≡ n → Left c p.stand
-    closed : p.number ≡ suc n → p.answer ≡ Result.Ok → p.state.current_consumer_state ≡ c
+    closed : p.number ≡ suc n → p.answer ≡ (Ok tt) → p.state.current_consumer_state ≡ c
 
   proceeds_since : (p : Policy) (m : ℕ) (i : Interaction) → n ≤ p.number → (p.number ≡ n → Chooses c i) →
-      (p.number ≡ suc n → p.answer ≡ Result.Ok → p.state.current_consumer_state ≡ c) → Since (proceeds p m i)
+      (p.number ≡ suc n → p.answer ≡ (Ok tt) → p.state.current_consumer_state ≡ c) → Since (proceeds p m i)
   proceeds_since p m (done a h) le left cl = record {
     reached = omega (arith, le);
     open-left = λ e. absurd (omega (arith, le, e));

@@ -1,5 +1,6 @@
 -- The first condition that holds has the first number that applies, since those after it have later places. The lists of each call go by the order, whatever it is
 -- given: their numbers are written out.
+use Rattle.std.specs.Prelude.{Option}
 use Prim.Native.Nat.{ℕ, suc, ◌+◌, ◌<◌, ◌≤◌}
 use mathlib.Core.Bool.{Bool, true, false, cond}
 use mathlib.Core.List.{List, [], ◌∷◌}
@@ -10,9 +11,9 @@ use lib.Dec.{ltb, eqb}
 use lib.ListN.{length}
 use borrow.Author.Tests.{ltb-true, eqb-true, eqb-false}
 use Rattle.power_policy_interface.proofs.Conjunction.{and_left, and_right}
-use Rattle.power_policy_service.specs.declared.config.OptionConfig.{OptionConfig}
+use Rattle.abstract_policy.specs.declared.order.Order.{Order}
+use Rattle.power_policy_service.specs.declared.config.Config.{Config}
 use Rattle.abstract_policy.specs.Refusals.{first_refused, order, place_from, rank, ascends_from, Ascending, Applies, First, Base, Lowest, start_refusals, open_conditions, answer_conditions, packet_conditions, picture_conditions}
-use Rattle.abstract_policy.specs.declared.order.OptionOrder.{OptionOrder}
 
 not_both : {A : Type 0} (b : Bool) → b ≡ true → b ≡ false → A
 not_both b e f = absurd (eqb-false 0 0 (sym e ∙ f) refl)
@@ -94,14 +95,14 @@ base_lowest l n all f = record { applies = f.applies; least = λ m h. go (eqb n 
     go true e m h = let z : n ≡ 0 = eqb-true n 0 e in omega (arith, z)
     go false e m h = (rank_size n m (all n (f.applies (eqb-false n 0 e))) (all m h)).0 (f.before m h)
 
-pub start_ascends : (config : OptionConfig) (ports chargers : ℕ) → Ascending (start_refusals config ports chargers)
+pub start_ascends : (config : Option Config) (ports chargers : ℕ) → Ascending (start_refusals config ports chargers)
 start_ascends config ports chargers = refl
 
 pub open_ascends : (ports chargers : ℕ) (waits : Bool) (number kind device detail : ℕ) →
     Ascending (open_conditions ports chargers waits number kind device detail)
 open_ascends ports chargers waits number kind device detail = refl
 
-pub answer_ascends : (o : OptionOrder) (a : ℕ) → Ascending (answer_conditions o a)
+pub answer_ascends : (o : Option Order) (a : ℕ) → Ascending (answer_conditions o a)
 answer_ascends o a = refl
 
 pub packet_ascends : (waits : Bool) (number : ℕ) → Ascending (packet_conditions waits number)

@@ -1,5 +1,6 @@
 -- A logic of actions, what holds before and what holds after, for any condition at the close: each action hands on what it holds, or asks and goes
 -- on so whatever is answered, and an error ends the event where nothing is asked of it.
+use Rattle.std.specs.Prelude.{Err, None, Ok, Result, Some}
 use mathlib.Core.Path.{◌≡◌, refl, sym, subst}
 use mathlib.Core.Bool.{Bool, true, false}
 use mathlib.Core.List.{[], ◌∷◌, ◌++◌}
@@ -7,11 +8,10 @@ use Prim.Native.Nat.{ℕ, zero, suc}
 use Rattle.power_policy_interface.specs.Psu.{can_connect_consumer_of}
 use Rattle.power_policy_interface.specs.Service.{same_unconstrained}
 use Rattle.power_policy_interface.specs.declared.capability.DisconnectFlags.{DisconnectFlags}
-use Rattle.power_policy_interface.specs.declared.psu.Result.{Result}
+use Rattle.power_policy_interface.specs.declared.psu.Error.{Error}
 use Rattle.power_policy_interface.specs.declared.service.UnconstrainedState.{UnconstrainedState}
 use Rattle.power_policy_interface.specs.declared.service.event.Event.{Event}
 use Rattle.interface_display.specs.declared.AvailableConsumer.{AvailableConsumer}
-use Rattle.interface_display.specs.declared.OptionAvailableConsumer.{OptionAvailableConsumer}
 use Rattle.abstract_policy.specs.State.{with_consumer, with_unconstrained, psu_of, charger_unpowered}
 use Rattle.abstract_policy.specs.Interaction.{reason_of, unconstrained_of, is_connected_consumer, update_unconstrained_state, attach_charger, post_consumer_connected, detach_charger, disconnect_chargers, disconnect_current, connect_consumer}
 use Rattle.abstract_policy.specs.Action.{Held, Interaction, done, Action, ◌>>=◌, ◌>>◌, skip, records, set, notify, await, ok, charger_ok, charger, psu, when, unless, each}
@@ -22,13 +22,13 @@ use Rattle.abstract_policy.specs.declared.state.Registration.{Registration}
 use Rattle.abstract_policy.specs.declared.order.Order.{Order}
 
 -- closed without error
-pub ends_ok : (C : Held → Type 0) (a : Result) (h : Held) → Ends C (done a h) → a ≡ Result.Ok → C h
-ends_ok C Result.Ok h c e = c
-ends_ok C (Result.Err x) h c e = absurd (subst IsErr e tt)
+pub ends_ok : (C : Held → Type 0) (a : Result (Unit {0}) Error) (h : Held) → Ends C (done a h) → a ≡ (Ok tt) → C h
+ends_ok C (Ok tt) h c e = c
+ends_ok C (Err x) h c e = absurd (subst IsErr e tt)
   where
-    IsErr : Result → Type 0
-    IsErr Result.Ok = ⊥
-    IsErr (Result.Err y) = Unit {0}
+    IsErr : Result (Unit {0}) Error → Type 0
+    IsErr (Ok tt) = ⊥
+    IsErr (Err y) = Unit {0}
 
 abbrev pub Next : Type 0
 Next = Unit {0} → Held → Records → Interaction
@@ -61,15 +61,15 @@ sets f z = record { goes = λ C h r k p q. q _ r (z h p) }
 pub notifies : {P Q : Held → Type 0} (e : Event) → TellsTo e P Q → From P (notify e) Q
 notifies e z = record { goes = λ C h r k p q. q _ r (z h p) }
 
-psu_answer : (C : Held → Type 0) (a : Result) (h : Held) (r : Records) (k : Next) → Ends C (k tt h r) → Ends C (ok a h r k)
-psu_answer C Result.Ok h r k p = p
-psu_answer C (Result.Err x) h r k p = tt
+psu_answer : (C : Held → Type 0) (a : Result (Unit {0}) Error) (h : Held) (r : Records) (k : Next) → Ends C (k tt h r) → Ends C (ok a h r k)
+psu_answer C (Ok tt) h r k p = p
+psu_answer C (Err x) h r k p = tt
 
-charger_answer : (C : Held → Type 0) (a : Result) (h : Held) (r : Records) (k : Next) → Ends C (k tt h r) → Ends C (charger_ok a h r k)
-charger_answer C Result.Ok h r k p = p
-charger_answer C (Result.Err x) h r k p = tt
+charger_answer : (C : Held → Type 0) (a : Result (Unit {0}) Error) (h : Held) (r : Records) (k : Next) → Ends C (k tt h r) → Ends C (charger_ok a h r k)
+charger_answer C (Ok tt) h r k p = p
+charger_answer C (Err x) h r k p = tt
 
-pub oks : {P : Held → Type 0} (a : Result) → From P (ok a) P
+pub oks : {P : Held → Type 0} (a : Result (Unit {0}) Error) → From P (ok a) P
 oks a = record { goes = λ C h r k p q. psu_answer C a h r k (q h r p) }
 
 pub asks_psu : {P : Held → Type 0} (o : Order) → From P (psu o) P
@@ -130,14 +130,14 @@ abbrev pub connected_event : AvailableConsumer → Event
 connected_event new = Event.ConsumerConnected new.psu new.consumer_power_capability
 
 connected : {P A Q : Held → Type 0} (g : Registration) (new : AvailableConsumer) →
-    SetsTo (with_consumer (OptionAvailableConsumer.Some new)) P A → TellsTo (connected_event new) A Q → From P (post_consumer_connected g new) Q
+    SetsTo (with_consumer (Some new)) P A → TellsTo (connected_event new) A Q → From P (post_consumer_connected g new) Q
 unfolding post_consumer_connected
 connected g new z t =
-    then (sets (with_consumer (OptionAvailableConsumer.Some new)) z)
+    then (sets (with_consumer (Some new)) z)
     (waits (then (loops g.chargers 0 (attach_charger new) (attaches new)) (notifies (connected_event new) t)))
 
 pub connects : {P A Q : Held → Type 0} (g : Registration) (new : AvailableConsumer) →
-    SetsTo (with_consumer (OptionAvailableConsumer.Some new)) P A → TellsTo (connected_event new) A Q → From P (connect_consumer g new) Q
+    SetsTo (with_consumer (Some new)) P A → TellsTo (connected_event new) A Q → From P (connect_consumer g new) Q
 unfolding connect_consumer
 connects g new z t =
     reads (λ s r. ok (can_connect_consumer_of (psu_of r new.psu)) >> (psu (Order.ConnectConsumer new.psu new.consumer_power_capability) >> post_consumer_connected g new))
@@ -161,10 +161,10 @@ gives_way g current new f t =
     (then (chargers_left g) (notifies (Event.ConsumerDisconnected current.psu (reason_of current.psu new f)) t))))
 
 pub disconnects : {P A Q : Held → Type 0} (g : Registration) (current new : AvailableConsumer) (f : DisconnectFlags) →
-    SetsTo (with_consumer OptionAvailableConsumer.None) P A →
+    SetsTo (with_consumer None) P A →
     TellsTo (Event.ConsumerDisconnected current.psu (reason_of current.psu new f)) A Q → From P (disconnect_current g current new f) Q
 unfolding disconnect_current
-disconnects g current new f z t = then (sets (with_consumer OptionAvailableConsumer.None) z) (gives_way g current new f t)
+disconnects g current new f z t = then (sets (with_consumer None) z) (gives_way g current new f t)
 
 pub figures : {P : Held → Type 0} {A : UnconstrainedState → Held → Type 0} (g : Registration) →
     ((u : UnconstrainedState) → SetsTo (with_unconstrained u) P (A u)) → ((u : UnconstrainedState) → TellsTo (Event.Unconstrained u) (A u) P) →

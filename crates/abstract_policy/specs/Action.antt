@@ -1,8 +1,7 @@
 -- EVT-4: an event as an interaction: it closes, or asks for a device order, and a reply brings the device's answer and the present
 -- records. SHP-2: actions are what the Rust's async functions become: an await on a device is an order, `?` ends the event.
-use Rattle.std.specs.Prelude.{ℕ, zero, suc, Bool, true, false, List, [], ◌∷◌, ◌++◌}
+use Rattle.std.specs.Prelude.{ℕ, zero, suc, Bool, true, false, List, [], ◌∷◌, ◌++◌, Err, Ok, Result}
 use Rattle.power_policy_interface.specs.declared.psu.Error.{Error}
-use Rattle.power_policy_interface.specs.declared.psu.Result.{Result}
 use Rattle.power_policy_interface.specs.declared.service.event.Event.{Event}
 use Rattle.abstract_policy.specs.declared.state.InternalState.{InternalState}
 use Rattle.abstract_policy.specs.declared.state.Records.{Records}
@@ -14,8 +13,8 @@ pub record Held : Type 0 where
   pub notices : List Event
 
 pub data Interaction : Type 0 where
-  done : Result → Held → Interaction
-  ask : Order → (Result → Records → Interaction) → Interaction
+  done : Result (Unit {0}) Error → Held → Interaction
+  ask : Order → (Result (Unit {0}) Error → Records → Interaction) → Interaction
 
 -- what comes next is given what is held and the present records
 abbrev pub Action : Type 0 → Type 0
@@ -33,7 +32,7 @@ skip h r k = k tt h r
 
 -- UPD-14: an error ends the event where it arises; earlier changes and notices remain
 abbrev pub fail : Error → Action (Unit {0})
-fail e h r k = done (Result.Err e) h
+fail e h r k = done (Err e) h
 
 abbrev pub state : Action InternalState
 state h r k = k h.state h r
@@ -47,18 +46,18 @@ set f h r k = k tt (record { state = f h.state; notices = h.notices }) r
 abbrev pub notify : Event → Action (Unit {0})
 notify e h r k = k tt (record { state = h.state; notices = h.notices ++ (e ∷ []) }) r
 
-abbrev pub await : Order → Action Result
+abbrev pub await : Order → Action (Result (Unit {0}) Error)
 await o h r k = ask o (λ a r'. k a h r')
 
 -- `?`
-abbrev pub ok : Result → Action (Unit {0})
-ok Result.Ok = skip
-ok (Result.Err e) = fail e
+abbrev pub ok : Result (Unit {0}) Error → Action (Unit {0})
+ok (Ok tt) = skip
+ok (Err e) = fail e
 
 -- `.map_err(|e| Error::Charger(e.into()))?`
-abbrev pub charger_ok : Result → Action (Unit {0})
-charger_ok Result.Ok = skip
-charger_ok (Result.Err e) = fail Error.Charger
+abbrev pub charger_ok : Result (Unit {0}) Error → Action (Unit {0})
+charger_ok (Ok tt) = skip
+charger_ok (Err e) = fail Error.Charger
 
 -- an order to a PSU and to a charger, with their `?`
 abbrev pub psu : Order → Action (Unit {0})

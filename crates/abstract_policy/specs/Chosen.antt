@@ -1,7 +1,6 @@
 -- DEM-2c, over whole runs of the definition: which consumer an event chooses that updates it, and that this one
 -- is held when the event has closed without error. It holds after every start that is accepted (`run_chooses` in proofs/Chosen.antt).
-use Rattle.std.specs.Prelude.{ℕ, suc, Bool, true, ◌||◌, List, ◌∷◌, ◌++◌, ◌≡◌, eqb}
-use Rattle.power_policy_interface.specs.declared.psu.Result.{Result}
+use Rattle.std.specs.Prelude.{ℕ, suc, Bool, true, ◌||◌, List, ◌∷◌, ◌++◌, ◌≡◌, eqb, Ok}
 use Rattle.power_policy_service.specs.Choice.{Chosen}
 use Rattle.abstract_policy.specs.Interaction.{find_best_consumer}
 use Rattle.abstract_policy.specs.Policy.{Call, open_event, Policy, started, open_refused, policies}
@@ -29,4 +28,4 @@ pub record Choices (g : Registration) : Type 0 where
       (l : List Call) (kind device detail : ℕ) (r : Records) (m : List Call) → Updates g l kind device detail →
       let p : Policy = policies (started g) l in
       let q : Policy = policies (started g) (l ++ (open_event kind device detail r ∷ m)) in
-      q.number ≡ suc p.number → q.answer ≡ Result.Ok → q.state.current_consumer_state ≡ find_best_consumer p.registration p.state r
+      q.number ≡ suc p.number → q.answer ≡ (Ok tt) → q.state.current_consumer_state ≡ find_best_consumer p.registration p.state r

@@ -1,27 +1,22 @@
 -- The event (DEM-2b), transcribed from consumer.rs, provider.rs and service/mod.rs, to be laid beside them. The names are theirs; a part of one of their
 -- functions that has a name of its own here (attach_charger, detach_charger, disconnect_current, connect_consumer, connect_best, provide, remove_provider, and what
 -- is computed or tested: unconstrained_of, is_connected_consumer, same_available, reason_of) stands just before the function.
-use Rattle.std.specs.Prelude.{ℕ, zero, suc, min, Bool, true, false, cond, ◌&&◌, [], eqb}
+use Rattle.std.specs.Prelude.{ℕ, zero, suc, min, Bool, true, false, cond, ◌&&◌, [], eqb, None, Ok, Option, Some}
 use Rattle.power_policy_interface.specs.Limits.{max_ports}
 use Rattle.power_policy_interface.specs.Psu.{can_connect_consumer_of, can_connect_provider_of}
 use Rattle.power_policy_interface.specs.Service.{same_unconstrained}
 use Rattle.power_policy_interface.specs.Capability.{same_consumer}
 use Rattle.power_policy_interface.specs.declared.capability.DisconnectFlags.{DisconnectFlags}
-use Rattle.power_policy_interface.specs.declared.capability.OptionProviderPowerCapability.{OptionProviderPowerCapability}
+use Rattle.power_policy_interface.specs.declared.capability.ConsumerPowerCapability.{ConsumerPowerCapability}
 use Rattle.power_policy_interface.specs.declared.capability.ProviderPowerCapability.{ProviderPowerCapability}
-use Rattle.power_policy_interface.specs.declared.psu.Result.{Result}
 use Rattle.power_policy_interface.specs.declared.psu.event.EventData.{EventData}
 use Rattle.power_policy_interface.specs.declared.service.event.Event.{Event}
 use Rattle.power_policy_interface.specs.declared.capability.DisconnectReason.{DisconnectReason}
-use Rattle.power_policy_interface.specs.declared.capability.OptionConsumerPowerCapability.{OptionConsumerPowerCapability}
-use Rattle.power_policy_interface.specs.declared.capability.OptionDisconnectReason.{OptionDisconnectReason}
 use Rattle.power_policy_interface.specs.declared.psu.PsuState.{PsuState}
 use Rattle.power_policy_interface.specs.declared.psu.State.{State}
 use Rattle.power_policy_interface.specs.declared.service.UnconstrainedState.{UnconstrainedState}
-use Rattle.interface_display.specs.Providers.{insert_of, remove_of}
+use Rattle.interface_display.specs.Providers.{insert_of, remove_of, Removed}
 use Rattle.interface_display.specs.declared.AvailableConsumer.{AvailableConsumer}
-use Rattle.interface_display.specs.declared.OptionAvailableConsumer.{OptionAvailableConsumer}
-use Rattle.interface_display.specs.declared.providers.Removed.{Removed}
 use Rattle.power_policy_service.specs.Consumer.{best_of}
 use Rattle.power_policy_service.specs.Provider.{total_of, total_with, power_state_of, grant_of}
 use Rattle.abstract_policy.specs.State.{with_consumer, with_unconstrained, with_providers, with_power_state, psu_of, charger_unpowered}
@@ -33,9 +28,9 @@ use Rattle.abstract_policy.specs.declared.order.Order.{Order}
 
 -- consumer.rs: UPD
 
-abbrev pub unconstrained_flag : OptionConsumerPowerCapability → Bool
-unconstrained_flag OptionConsumerPowerCapability.None = false
-unconstrained_flag (OptionConsumerPowerCapability.Some c) = c.flags.unconstrained_power
+abbrev pub unconstrained_flag : Option ConsumerPowerCapability → Bool
+unconstrained_flag None = false
+unconstrained_flag (Some c) = c.flags.unconstrained_power
 
 abbrev pub offers_unconstrained : State → Bool
 offers_unconstrained s = unconstrained_flag s.consumer_capability
@@ -49,9 +44,9 @@ abbrev pub available_of : Records → ℕ → ℕ
 available_of r zero = 0
 available_of r (suc n) = counted (offers_unconstrained (psu_of r n)) (available_of r n)
 
-abbrev pub consumer_flag : OptionAvailableConsumer → Bool
-consumer_flag OptionAvailableConsumer.None = false
-consumer_flag (OptionAvailableConsumer.Some c) = c.consumer_power_capability.flags.unconstrained_power
+abbrev pub consumer_flag : Option AvailableConsumer → Bool
+consumer_flag None = false
+consumer_flag (Some c) = c.consumer_power_capability.flags.unconstrained_power
 
 abbrev pub unconstrained_of : Registration → InternalState → Records → UnconstrainedState
 unconstrained_of g s r = record { unconstrained = consumer_flag s.current_consumer_state; available = available_of r g.ports }
@@ -77,7 +72,7 @@ attach_charger new i = do
 -- UPD-9 to UPD-11; a wait does not fail (EVT-7)
 unfoldable pub post_consumer_connected : Registration → AvailableConsumer → Action (Unit {0})
 post_consumer_connected g new = do
-  set (with_consumer (OptionAvailableConsumer.Some new))
+  set (with_consumer (Some new))
   await Order.Wait
   each g.chargers 0 (attach_charger new)
   notify (Event.ConsumerConnected new.psu new.consumer_power_capability)
@@ -99,22 +94,22 @@ is_connected_consumer PsuState.Detached = false
 abbrev pub same_available : AvailableConsumer → AvailableConsumer → Bool
 same_available a b = eqb a.psu b.psu && same_consumer b.consumer_power_capability a.consumer_power_capability
 
-abbrev pub or_switching : OptionDisconnectReason → DisconnectReason
-or_switching OptionDisconnectReason.None = DisconnectReason.Switching
-or_switching (OptionDisconnectReason.Some r) = r
+abbrev pub or_switching : Option DisconnectReason → DisconnectReason
+or_switching None = DisconnectReason.Switching
+or_switching (Some r) = r
 
 -- UPD-8: AutoRenegotiation if the port is the same, else the event's reason, else Switching
 abbrev pub reason_of : ℕ → AvailableConsumer → DisconnectFlags → DisconnectFlags
 reason_of old new f =
     record {
-      reason = OptionDisconnectReason.Some (cond (eqb old new.psu) DisconnectReason.AutoRenegotiation (or_switching f.reason));
+      reason = Some (cond (eqb old new.psu) DisconnectReason.AutoRenegotiation (or_switching f.reason));
     }
 
 -- connect_new_consumer (UPD-6), and before it its two parts: the current consumer gives way (UPD-7); the new one is connected (UPD-9)
 
 unfoldable pub disconnect_current : Registration → AvailableConsumer → AvailableConsumer → DisconnectFlags → Action (Unit {0})
 disconnect_current g current new flags = do
-  set (with_consumer OptionAvailableConsumer.None)
+  set (with_consumer None)
   r ← records
   when (is_connected_consumer (psu_of r current.psu).psu_state) (psu (Order.Disconnect current.psu))
   disconnect_chargers g
@@ -128,24 +123,24 @@ connect_consumer g new = do
   post_consumer_connected g new
 
 unfoldable pub connect_new_consumer :
-    Registration → OptionAvailableConsumer → AvailableConsumer → DisconnectFlags → Action (Unit {0})
-connect_new_consumer g OptionAvailableConsumer.None new flags = connect_consumer g new
-connect_new_consumer g (OptionAvailableConsumer.Some current) new flags =
+    Registration → Option AvailableConsumer → AvailableConsumer → DisconnectFlags → Action (Unit {0})
+connect_new_consumer g None new flags = connect_consumer g new
+connect_new_consumer g (Some current) new flags =
     unless (same_available current new) (do
       disconnect_current g current new flags
       connect_consumer g new)
 
 -- UPD-4, UPD-5: the best consumer, and the current one
 unfoldable pub connect_best :
-    Registration → OptionAvailableConsumer → OptionAvailableConsumer → DisconnectFlags → Action (Unit {0})
-connect_best g (OptionAvailableConsumer.Some best) current flags = connect_new_consumer g current best flags
-connect_best g OptionAvailableConsumer.None OptionAvailableConsumer.None flags = set (with_consumer OptionAvailableConsumer.None)
-connect_best g OptionAvailableConsumer.None (OptionAvailableConsumer.Some current) flags = do
+    Registration → Option AvailableConsumer → Option AvailableConsumer → DisconnectFlags → Action (Unit {0})
+connect_best g (Some best) current flags = connect_new_consumer g current best flags
+connect_best g None None flags = set (with_consumer None)
+connect_best g None (Some current) flags = do
   disconnect_chargers g
   notify (Event.ConsumerDisconnected current.psu flags)
-  set (with_consumer OptionAvailableConsumer.None)
+  set (with_consumer None)
 
-abbrev pub find_best_consumer : Registration → InternalState → Records → OptionAvailableConsumer
+abbrev pub find_best_consumer : Registration → InternalState → Records → Option AvailableConsumer
 find_best_consumer g s r =
     best_of g.config.min_consumer_threshold_mw s.current_consumer_state r.psus (min max_ports g.ports)
 
@@ -166,9 +161,9 @@ post_provider_connected requester target = do
   notify (Event.ProviderConnected requester target)
 
 -- PRV-1: no request, no error. PRV-2 to PRV-6: else the power state is set, and what it grants is ordered
-unfoldable pub provide : Registration → ℕ → OptionProviderPowerCapability → Action (Unit {0})
-provide g requester OptionProviderPowerCapability.None = skip
-provide g requester (OptionProviderPowerCapability.Some requested) = do
+unfoldable pub provide : Registration → ℕ → Option ProviderPowerCapability → Action (Unit {0})
+provide g requester None = skip
+provide g requester (Some requested) = do
   r ← records
   let power = power_state_of g.config (total_with requester requested r.psus (min max_ports g.ports))
   let target = grant_of g.config power requested
@@ -200,10 +195,10 @@ post_provider_removed g port = do
 -- service/mod.rs: EVT
 
 abbrev pub no_reason : DisconnectFlags
-no_reason = record { reason = OptionDisconnectReason.None }
+no_reason = record { reason = None }
 
 abbrev pub detached_reason : DisconnectFlags
-detached_reason = record { reason = OptionDisconnectReason.Some DisconnectReason.Detached }
+detached_reason = record { reason = Some DisconnectReason.Detached }
 
 -- EVT-11 to EVT-16: what each kind of event does
 unfoldable pub process_psu_event : Registration → ℕ → EventData → Action (Unit {0})
@@ -219,7 +214,7 @@ process_psu_event g device EventData.Detached = do
 
 -- `Ok(())`
 abbrev pub close : Unit {0} → Held → Records → Interaction
-close u h r = done Result.Ok h
+close u h r = done (Ok tt) h
 
 -- EVT-3: an event opened with this state and these records; no notice yet
 abbrev pub event : Registration → ℕ → EventData → InternalState → Records → Interaction

@@ -1,6 +1,6 @@
 -- EVT-1: a run as the event's definition has it, without the machine: fed with the start and the calls that no numbered condition turns back.
-use Rattle.std.specs.Prelude.{ℕ, suc, Bool, true, false, cond, List, [], ◌∷◌, ◌++◌, eqb}
-use Rattle.power_policy_interface.specs.declared.psu.Result.{Result}
+use Rattle.std.specs.Prelude.{ℕ, suc, Bool, true, false, cond, List, [], ◌∷◌, ◌++◌, eqb, None, Ok, Option, Result, Some}
+use Rattle.power_policy_interface.specs.declared.psu.Error.{Error}
 use Rattle.power_policy_interface.specs.declared.service.event.Event.{Event}
 use Rattle.interface_display.specs.declared.Display.{Display}
 use Rattle.abstract_policy.specs.State.{fresh_state, display_of}
@@ -11,13 +11,12 @@ use Rattle.abstract_policy.specs.Interaction.{event}
 use Rattle.abstract_policy.specs.declared.state.InternalState.{InternalState}
 use Rattle.abstract_policy.specs.declared.state.Records.{Records}
 use Rattle.abstract_policy.specs.declared.state.Registration.{Registration}
-use Rattle.abstract_policy.specs.declared.order.OptionOrder.{OptionOrder}
 use Rattle.abstract_policy.specs.declared.order.Order.{Order}
 
 -- no event is open, or one is: so many orders given, the open one the last of them, and what its answer leads to
 pub data Stand : Type 0 where
   between : Stand
-  at : ℕ → Order → (Result → Records → Interaction) → Stand
+  at : ℕ → Order → (Result (Unit {0}) Error → Records → Interaction) → Stand
 
 pub record Policy : Type 0 where
   pub registration : Registration
@@ -26,7 +25,7 @@ pub record Policy : Type 0 where
   -- what was held when it closed
   pub state : InternalState
   -- its answer, the number of its orders, and its notices in their order
-  pub answer : Result
+  pub answer : Result (Unit {0}) Error
   pub orders : ℕ
   pub notices : List Event
   pub stand : Stand
@@ -34,7 +33,7 @@ pub record Policy : Type 0 where
 -- 0: the start
 abbrev pub started : Registration → Policy
 started g =
-    record { registration = g; number = 0; state = fresh_state; answer = Result.Ok; orders = 0; notices = []; stand = between }
+    record { registration = g; number = 0; state = fresh_state; answer = (Ok tt); orders = 0; notices = []; stand = between }
 
 -- after n orders the event closes, and has the next number, or asks once more. What is counted is the length of the list of its orders
 -- (specs/Orders.antt)
@@ -44,9 +43,9 @@ proceeds p n (done a h) =
 proceeds p n (ask o k) =
     record { registration = p.registration; number = p.number; state = p.state; answer = p.answer; orders = p.orders; notices = p.notices; stand = at (suc n) o k }
 
-abbrev pub order_at : Stand → OptionOrder
-order_at between = OptionOrder.None
-order_at (at n o k) = OptionOrder.Some o
+abbrev pub order_at : Stand → Option Order
+order_at between = None
+order_at (at n o k) = Some o
 
 abbrev pub is_at : Stand → Bool
 is_at between = false

@@ -1,9 +1,8 @@
 -- DEM-1b: what turns a call back: a list of conditions with their numbers for each call,
 -- in the order in which they are looked at. The first that holds gives the number.
-use Rattle.std.specs.Prelude.{ℕ, suc, ◌≤◌, Bool, true, false, cond, not, ◌&&◌, ◌||◌, List, [], ◌∷◌, ◌⊎◌, ◌≡◌, ltb, leb, eqb}
+use Rattle.std.specs.Prelude.{ℕ, suc, ◌≤◌, Bool, true, false, cond, not, ◌&&◌, ◌||◌, List, [], ◌∷◌, ◌⊎◌, ◌≡◌, ltb, leb, eqb, None, Option, Some}
 use Rattle.power_policy_interface.specs.Limits.{largest, max_ports, max_chargers}
-use Rattle.power_policy_service.specs.declared.config.OptionConfig.{OptionConfig}
-use Rattle.abstract_policy.specs.declared.order.OptionOrder.{OptionOrder}
+use Rattle.power_policy_service.specs.declared.config.Config.{Config}
 use Rattle.abstract_policy.specs.declared.order.Order.{Order}
 
 -- 0 if no condition holds
@@ -59,15 +58,15 @@ pub record Lowest (l : List (Bool × ℕ)) (n : ℕ) : Type 0 where
 -- start
 
 -- no configuration could be read: a figure is over its Rust type, or the presence of a minimum is neither 0 nor 1
-abbrev pub over_type : OptionConfig → Bool
-over_type OptionConfig.None = true
-over_type (OptionConfig.Some c) = false
+abbrev pub over_type : Option Config → Bool
+over_type None = true
+over_type (Some c) = false
 
 -- REF-20: over 16 ports or 8 chargers, or no configuration
-abbrev pub over_registered : OptionConfig → ℕ → ℕ → Bool
+abbrev pub over_registered : Option Config → ℕ → ℕ → Bool
 over_registered config ports chargers = ltb max_ports ports || (ltb max_chargers chargers || over_type config)
 
-abbrev pub start_refusals : OptionConfig → ℕ → ℕ → List (Bool × ℕ)
+abbrev pub start_refusals : Option Config → ℕ → ℕ → List (Bool × ℕ)
 start_refusals config ports chargers = (over_registered config ports chargers, 20) ∷ []
 
 -- open
@@ -81,9 +80,9 @@ abbrev pub unknown_event : ℕ → ℕ → Bool
 unknown_event kind detail = ltb 5 kind || cond (eqb kind 3) (ltb 6 detail) (eqb kind 5 && ltb 1 detail)
 
 -- an order waits for its answer
-abbrev pub waiting : OptionOrder → Bool
-waiting OptionOrder.None = false
-waiting (OptionOrder.Some o) = true
+abbrev pub waiting : Option Order → Bool
+waiting None = false
+waiting (Some o) = true
 
 -- REF-28: PSU event after number 4,294,967,295; a charger's has no number
 abbrev pub numbers_used : ℕ → ℕ → Bool
@@ -111,21 +110,21 @@ other_error (Order.Attach i c) a = not (eqb a 9)
 other_error (Order.Detach i) a = not (eqb a 9)
 other_error Order.Wait a = true
 
-abbrev pub other_error_in : OptionOrder → ℕ → Bool
-other_error_in OptionOrder.None a = false
-other_error_in (OptionOrder.Some o) a = other_error o a
+abbrev pub other_error_in : Option Order → ℕ → Bool
+other_error_in None a = false
+other_error_in (Some o) a = other_error o a
 
 -- REF-24: answer above 10; a failed wait (EVT-7); a charger order failed other than by 9
-abbrev pub unknown_answer : OptionOrder → ℕ → Bool
+abbrev pub unknown_answer : Option Order → ℕ → Bool
 unknown_answer o a = ltb 10 a || (not (eqb a 0) && other_error_in o a)
 
 -- REF-26: answer with no order open
-abbrev pub answer_conditions : OptionOrder → ℕ → List (Bool × ℕ)
+abbrev pub answer_conditions : Option Order → ℕ → List (Bool × ℕ)
 answer_conditions o a = (unknown_answer o a, 24) ∷ (not (waiting o), 26) ∷ []
 
 -- 24 alone: this number is no answer to the order
 abbrev pub no_answer : Order → ℕ → Bool
-no_answer o a = unknown_answer (OptionOrder.Some o) a
+no_answer o a = unknown_answer (Some o) a
 
 -- both writes: REF-25 while an event is open, REF-27 before event 1
 

@@ -2,7 +2,7 @@
 use power_policy_interface::capability::{ConsumerPowerCapability, ProviderPowerCapability};
 
 // A device order. The number is the port's or the charger's.
-#[derive(Clone, Copy)]
+#[derive(Clone, Copy, PartialEq, Eq)]
 pub enum Order {
     // Disconnect a PSU.
     Disconnect(u8),
@@ -20,11 +20,4 @@ pub enum Order {
     Detach(u8),
     // Wait 800 ms.
     Wait,
-}
-
-// The order that waits for its answer, if one does.
-#[derive(Clone, Copy)]
-pub enum OptionOrder {
-    None,
-    Some(Order),
 }

@@ -3,10 +3,7 @@ ghost use Rattle.std.specs.Prelude.{◌≡◌};
 ghost use Rattle.abstract_policy.specs.State.{fresh_state, with_consumer, with_power_state, with_unconstrained, with_providers, display_of, psu_of, charger_unpowered};
 
 use interface_display::providers::Providers;
-use interface_display::{Display, OptionAvailableConsumer};
-use power_policy_interface::capability::{
-    OptionConsumerPowerCapability, OptionProviderPowerCapability,
-};
+use interface_display::{AvailableConsumer, Display};
 use power_policy_interface::limits::{MAX_CHARGERS, MAX_PORTS};
 use power_policy_interface::service::UnconstrainedState;
 use power_policy_interface::{charger, psu};
@@ -32,7 +29,7 @@ pub struct Records {
 #[derive(Clone, Copy)]
 pub struct InternalState {
     // Current consumer state, if any.
-    pub current_consumer_state: OptionAvailableConsumer,
+    pub current_consumer_state: Option<AvailableConsumer>,
     // Current provider power state.
     pub current_provider_state: PowerState,
     // System unconstrained power.
@@ -41,13 +38,13 @@ pub struct InternalState {
     pub connected_providers: Providers,
 }
 
-impl InternalState {
+impl Default for InternalState {
+    ghost is_default = { λ s. s ≡ fresh_state };
+
     // No consumer, unlimited, nothing unconstrained, no provider (InternalState::default).
-    pub fn default() -> Self
-        ensures { result ≡ fresh_state }
-    {
+    fn default() -> Self {
         InternalState {
-            current_consumer_state: OptionAvailableConsumer::None,
+            current_consumer_state: None,
             current_provider_state: PowerState::Unlimited,
             unconstrained: UnconstrainedState {
                 unconstrained: false,
@@ -56,60 +53,43 @@ impl InternalState {
             connected_providers: Providers::new(),
         }
     }
+}
 
-    pub fn with_consumer(self, current_consumer_state: OptionAvailableConsumer) -> InternalState
+// One function for each field: which field it sets is no parameter.
+impl InternalState {
+    pub fn with_consumer(self, current_consumer_state: Option<AvailableConsumer>) -> InternalState
         ensures { result ≡ with_consumer current_consumer_state self }
     {
-        let current_provider_state = self.current_provider_state;
-        let unconstrained = self.unconstrained;
-        let connected_providers = self.connected_providers;
         InternalState {
             current_consumer_state,
-            current_provider_state,
-            unconstrained,
-            connected_providers,
+            ..self
         }
     }
 
     pub fn with_power_state(self, current_provider_state: PowerState) -> InternalState
         ensures { result ≡ with_power_state current_provider_state self }
     {
-        let current_consumer_state = self.current_consumer_state;
-        let unconstrained = self.unconstrained;
-        let connected_providers = self.connected_providers;
         InternalState {
-            current_consumer_state,
             current_provider_state,
-            unconstrained,
-            connected_providers,
+            ..self
         }
     }
 
     pub fn with_unconstrained(self, unconstrained: UnconstrainedState) -> InternalState
         ensures { result ≡ with_unconstrained unconstrained self }
     {
-        let current_consumer_state = self.current_consumer_state;
-        let current_provider_state = self.current_provider_state;
-        let connected_providers = self.connected_providers;
         InternalState {
-            current_consumer_state,
-            current_provider_state,
             unconstrained,
-            connected_providers,
+            ..self
         }
     }
 
     pub fn with_providers(self, connected_providers: Providers) -> InternalState
         ensures { result ≡ with_providers connected_providers self }
     {
-        let current_consumer_state = self.current_consumer_state;
-        let current_provider_state = self.current_provider_state;
-        let unconstrained = self.unconstrained;
         InternalState {
-            current_consumer_state,
-            current_provider_state,
-            unconstrained,
             connected_providers,
+            ..self
         }
     }
 
@@ -117,13 +97,10 @@ impl InternalState {
     pub fn display(self) -> Display
         ensures { result ≡ display_of self }
     {
-        let consumer = self.current_consumer_state;
-        let unconstrained = self.unconstrained;
-        let providers = self.connected_providers;
         Display {
-            consumer,
-            unconstrained,
-            providers,
+            consumer: self.current_consumer_state,
+            unconstrained: self.unconstrained,
+            providers: self.connected_providers,
         }
     }
 }
@@ -133,14 +110,14 @@ impl Records {
     pub fn psu(self, port: u8) -> psu::State
         ensures { result ≡ psu_of self port }
     {
-        let psus = self.psus;
         if port < MAX_PORTS {
-            return psus[port as usize];
-        }
-        psu::State {
-            psu_state: psu::PsuState::Idle,
-            consumer_capability: OptionConsumerPowerCapability::None,
-            requested_provider_capability: OptionProviderPowerCapability::None,
+            self.psus[port as usize]
+        } else {
+            psu::State {
+                psu_state: psu::PsuState::Idle,
+                consumer_capability: None,
+                requested_provider_capability: None,
+            }
         }
     }
 
@@ -148,11 +125,6 @@ impl Records {
     pub fn unpowered(self, charger: u8) -> bool
         ensures { result ≡ charger_unpowered self charger }
     {
-        let chargers = self.chargers;
-        if charger < MAX_CHARGERS {
-            let c = chargers[charger as usize];
-            return c.is_unpowered();
-        }
-        true
+        MAX_CHARGERS <= charger || self.chargers[charger as usize].is_unpowered()
     }
 }

@@ -1,20 +1,20 @@
 -- What each C function returns and what it leaves in the bytes it is lent (docs/STATE.md). A call that is turned back leaves them as they were.
-use Rattle.std.specs.Prelude.{ℕ, cond, List, eqb, length}
+use Rattle.std.specs.Prelude.{ℕ, cond, List, eqb, length, Err, None, Ok, Option, Result, Some}
 use Rattle.power_policy_interface.specs.Limits.{service_length, follower_length}
+use Rattle.power_policy_interface.specs.Refusal.{refusal_number}
+use Rattle.power_policy_interface.specs.declared.refusal.Refusal.{Refusal}
 use Rattle.interface_display.specs.declared.State.{State}
-use Rattle.power_policy_service.specs.declared.config.OptionConfig.{OptionConfig}
+use Rattle.abstract_policy.specs.declared.order.Order.{Order}
+use Rattle.interface_display.specs.declared.packet.Packet.{Packet}
+use Rattle.power_policy_service.specs.declared.config.Config.{Config}
 use Rattle.abstract_policy.specs.declared.state.Records.{Records}
-use Rattle.abstract_policy.specs.declared.order.OptionOrder.{OptionOrder}
 use Rattle.abstract_policy.specs.declared.outcome.Step.{Step}
 use Rattle.machine_state.specs.Phase.{order_of}
 use Rattle.machine_state.specs.declared.phase.Phase.{Phase}
-use Rattle.machine_service.specs.Service.{answer_in, start_of, open_of, answer_of}
+use Rattle.machine_service.specs.Service.{Stepped, answer_in, start_of, open_of, answer_of}
 use Rattle.machine_service.specs.declared.Service.{Service}
-use Rattle.machine_service.specs.declared.Started.{Started}
-use Rattle.machine_service.specs.declared.Stepped.{Stepped}
 use Rattle.machine_service.specs.Send.{send_packet, send_picture}
 use Rattle.wire.specs.Read.{read_packet}
-use Rattle.wire.specs.declared.packet.ReadPacket.{ReadPacket}
 use Rattle.desk_follower.specs.Follower.{fresh, taken, state_of, consumer_of}
 use Rattle.desk_follower.specs.declared.Follower.{Follower}
 use Rattle.desk_follower.specs.declared.Shown.{Shown}
@@ -22,19 +22,21 @@ use Rattle.desk_report.specs.Page.{page_bytes, page_for}
 use Rattle.abstract_calls.specs.Called.{Called, called, refused_call}
 use Rattle.abstract_calls.specs.Lent.{rows_in, packet_call, picture_call, page_call}
 use Rattle.abstract_calls.specs.Numbers.{refused_number, order_number, closed_number, done_number, consumer_number, lost_number, shown_number, tracked_number}
-use Rattle.abstract_calls.specs.declared.Rows.{Rows}
 use Rattle.bytes_service_image.specs.Image.{service_bytes, service_from}
-use Rattle.bytes_service_image.specs.declared.ReadService.{ReadService}
 use Rattle.bytes_follower_image.specs.Image.{follower_bytes, follower_from}
-use Rattle.bytes_follower_image.specs.declared.ReadFollower.{ReadFollower}
+
+-- the number of a call, or that of what turns it back
+abbrev pub number_of : Result ℕ Refusal → ℕ
+number_of (Ok n) = n
+number_of (Err r) = refused_number (refusal_number r)
 
 -- start: REF-20, then REF-21 for bytes of another length than an image's
 
-abbrev pub started_call : List ℕ → Started → Called
-started_call image (Started.Refused n) = refused_call n image
-started_call image (Started.Service s) = cond (eqb (length image) service_length) (called done_number (service_bytes s)) (refused_call 21 image)
+abbrev pub started_call : List ℕ → Result Service ℕ → Called
+started_call image (Err n) = refused_call n image
+started_call image (Ok s) = cond (eqb (length image) service_length) (called done_number (service_bytes s)) (refused_call 21 image)
 
-abbrev pub start_call : List ℕ → OptionConfig → ℕ → ℕ → Called
+abbrev pub start_call : List ℕ → Option Config → ℕ → ℕ → Called
 start_call image config ports chargers = started_call image (start_of config ports chargers)
 
 -- the image of a service in bytes of its length; others stay
@@ -43,20 +45,21 @@ put_service image s = cond (eqb (length image) service_length) (service_bytes s)
 
 -- open and answer: 21, then 22 for records of another length or with a field out of range, then what turns the service's call back
 
-abbrev pub stepped_at : List ℕ → Step → Service → Called
-stepped_at image (Step.Order o) s = called (order_number o) (put_service image s)
-stepped_at image (Step.Closed a n) s = called (closed_number a n) (put_service image s)
-stepped_at image (Step.Refused n) s = refused_call n image
+abbrev pub stepped_at : List ℕ → Result Step ℕ → Service → Called
+stepped_at image (Ok (Step.Order o)) s = called (order_number o) (put_service image s)
+stepped_at image (Ok (Step.Closed a n)) s = called (closed_number a n) (put_service image s)
+stepped_at image (Err n) s = refused_call n image
 
 abbrev pub stepped_call : List ℕ → Stepped → Called
 stepped_call image x = stepped_at image x.step x.service
 
-abbrev pub with_rows : List ℕ → Rows → (Records → Stepped) → Called
-with_rows image r f = cond r.ok (stepped_call image (f r.records)) (refused_call 22 image)
+abbrev pub with_rows : List ℕ → Option Records → (Records → Stepped) → Called
+with_rows image None f = refused_call 22 image
+with_rows image (Some r) f = stepped_call image (f r)
 
-abbrev pub on_service : List ℕ → ReadService → List ℕ → List ℕ → (Service → Records → Stepped) → Called
-on_service image ReadService.Refused psus chargers f = refused_call 21 image
-on_service image (ReadService.Read s) psus chargers f =
+abbrev pub on_service : List ℕ → Option Service → List ℕ → List ℕ → (Service → Records → Stepped) → Called
+on_service image None psus chargers f = refused_call 21 image
+on_service image (Some s) psus chargers f =
     with_rows image (rows_in s.registration psus chargers) (f s)
 
 abbrev pub open_call : List ℕ → List ℕ → List ℕ → ℕ → ℕ → ℕ → Called
@@ -68,23 +71,23 @@ answer_call image psus chargers a = on_service image (service_from image) psus c
 
 -- order: where the event stands; closed, with how many orders it gave
 
-abbrev pub stand_number : OptionOrder → Phase → ℕ → ℕ
-stand_number OptionOrder.None p n = closed_number (answer_in p) n
-stand_number (OptionOrder.Some o) p n = order_number o
+abbrev pub stand_number : Option Order → Phase → ℕ → ℕ
+stand_number None p n = closed_number (answer_in p) n
+stand_number (Some o) p n = order_number o
 
-abbrev pub order_call : ReadService → ℕ
-order_call ReadService.Refused = refused_number 21
-order_call (ReadService.Read s) = stand_number (order_of s.phase) s.phase s.orders
+abbrev pub order_call : Option Service → ℕ
+order_call None = refused_number 21
+order_call (Some s) = stand_number (order_of s.phase) s.phase s.orders
 
 -- both writes, into a buffer: 21, then 25 and 27, then 29
 
-abbrev pub write_packet_call : ReadService → List ℕ → Called
-write_packet_call ReadService.Refused buffer = refused_call 21 buffer
-write_packet_call (ReadService.Read s) buffer = packet_call (send_packet s) buffer
+abbrev pub write_packet_call : Option Service → List ℕ → Called
+write_packet_call None buffer = refused_call 21 buffer
+write_packet_call (Some s) buffer = packet_call (send_packet s) buffer
 
-abbrev pub write_picture_call : ReadService → List ℕ → Called
-write_picture_call ReadService.Refused buffer = refused_call 21 buffer
-write_picture_call (ReadService.Read s) buffer = picture_call (send_picture s) buffer
+abbrev pub write_picture_call : Option Service → List ℕ → Called
+write_picture_call None buffer = refused_call 21 buffer
+write_picture_call (Some s) buffer = picture_call (send_picture s) buffer
 
 -- the follower
 
@@ -95,13 +98,14 @@ put_follower image f = cond (eqb (length image) follower_length) (follower_bytes
 abbrev pub follower_start_call : List ℕ → Called
 follower_start_call image = cond (eqb (length image) follower_length) (called done_number (follower_bytes fresh)) (refused_call 21 image)
 
-abbrev pub taken_call : List ℕ → Follower → ReadPacket → Called
-taken_call image f (ReadPacket.Refused n) = refused_call n image
-taken_call image f (ReadPacket.Packet p) = called done_number (put_follower image (taken f p))
+abbrev pub taken_call : List ℕ → Follower → Result Packet ℕ → Called
+taken_call image f (Err n) = refused_call n image
+taken_call image f (Ok p) = called done_number (put_follower image (taken f p))
 
 -- 21, then the first of 30 to 33 from the left
-abbrev pub take_on : List ℕ → ReadFollower → List ℕ → Called
-take_on image r packet = cond r.ok (taken_call image r.follower (read_packet packet)) (refused_call 21 image)
+abbrev pub take_on : List ℕ → Option Follower → List ℕ → Called
+take_on image None packet = refused_call 21 image
+take_on image (Some f) packet = taken_call image f (read_packet packet)
 
 abbrev pub take_call : List ℕ → List ℕ → Called
 take_call image packet = take_on image (follower_from image) packet
@@ -116,18 +120,20 @@ abbrev pub tracked_in : Shown → ℕ
 tracked_in (Shown.Lost floor) = tracked_number (record { mask = 0 })
 tracked_in (Shown.Picture s) = tracked_number s.display.providers
 
-abbrev pub reader_call : ReadFollower → (Follower → ℕ) → ℕ
-reader_call r f = cond r.ok (f r.follower) (refused_number 21)
+abbrev pub reader_call : Option Follower → (Follower → ℕ) → ℕ
+reader_call None t = refused_number 21
+reader_call (Some f) t = t f
 
-abbrev pub shown_call : ReadFollower → ℕ
+abbrev pub shown_call : Option Follower → ℕ
 shown_call r = reader_call r (λ f. shown_as (state_of f) f.shown)
 
-abbrev pub consumer_call : ReadFollower → ℕ
+abbrev pub consumer_call : Option Follower → ℕ
 consumer_call r = reader_call r (λ f. consumer_number (consumer_of f.shown))
 
-abbrev pub tracked_call : ReadFollower → ℕ
+abbrev pub tracked_call : Option Follower → ℕ
 tracked_call r = reader_call r (λ f. tracked_in f.shown)
 
 -- the page, into a buffer: 21, then 34
-abbrev pub write_page_call : ReadFollower → List ℕ → Called
-write_page_call r buffer = cond r.ok (page_call (page_bytes (page_for r.follower)) buffer) (refused_call 21 buffer)
+abbrev pub write_page_call : Option Follower → List ℕ → Called
+write_page_call None buffer = refused_call 21 buffer
+write_page_call (Some f) buffer = page_call (page_bytes (page_for f)) buffer

@@ -1,15 +1,18 @@
 // The 64-bit number that a C function returns: its low byte says what happened, the other bytes what belongs to it (docs/STATE.md).
-ghost use Rattle.std.specs.Prelude.{◌≡◌};
+ghost use Rattle.std.specs.Prelude.{◌≡◌, Ok};
+ghost use Rattle.power_policy_interface.specs.Refusal.{refusal_number, numbered};
 ghost use Rattle.abstract_calls.specs.Lent.{written_as};
 ghost use Rattle.abstract_calls.specs.Numbers.{packed, refused_number, bare_order, capability_order, order_number, closed_number, step_number, written_number, done_number, state_number, lost_number, shown_number, consumer_number, tracked_number};
+ghost use Rattle.bytes_calls.specs.Calls.{number_of};
 
 use abstract_policy::order::Order;
 use abstract_policy::outcome::Step;
+use interface_display::packet::Picture;
 use interface_display::providers::Providers;
-use interface_display::{Display, OptionAvailableConsumer, State};
+use interface_display::{AvailableConsumer, State};
 use power_policy_interface::capability::PowerCapability;
-use power_policy_interface::psu::Result;
-use wire_writer::Written;
+use power_policy_interface::psu;
+use power_policy_interface::refusal::Refusal;
 
 // The milliseconds of a wait.
 const WAIT_MS: u16 = 800;
@@ -26,10 +29,17 @@ fn pack(what: u8, a: u8, b: u8, c: u8, d: u16, e: u16) -> u64
         + 281474976710656 * (e as u64)
 }
 
-pub fn refused(number: u8) -> u64
-    ensures { result ≡ refused_number number }
+pub fn refused(r: Refusal) -> u64
+    ensures { result ≡ refused_number (refusal_number r) }
 {
-    pack(0, number, 0, 0, 0, 0)
+    pack(0, u8::from(r), 0, 0, 0, 0)
+}
+
+// What a call returns: a number of its own, or that of what turns it back.
+pub fn number_of(answer: Result<u64, Refusal>) -> u64
+    ensures { result ≡ number_of answer }
+{
+    answer.unwrap_or_else(refused)
 }
 
 // An order without a capability.
@@ -51,48 +61,52 @@ pub fn order(order: Order) -> u64
 {
     match order {
         Order::Disconnect(port) => bare(0, port),
-        Order::ConnectConsumer(port, c) => {
-            let capability = c.capability;
-            let flags = c.flags;
-            with_capability(1, port, flags.byte(), capability)
-        }
-        Order::ConnectProvider(port, c) => {
-            let capability = c.capability;
-            let flags = c.flags;
-            with_capability(2, port, flags.byte(), capability)
-        }
+        Order::ConnectConsumer(port, c) => with_capability(
+            1,
+            port,
+            u8::from(c.flags),
+            c.capability,
+        ),
+        Order::ConnectProvider(port, c) => with_capability(
+            2,
+            port,
+            u8::from(c.flags),
+            c.capability,
+        ),
         Order::IsReady(i) => bare(3, i),
         Order::InitCharger(i) => bare(4, i),
-        Order::Attach(i, c) => {
-            let capability = c.capability;
-            let flags = c.flags;
-            with_capability(5, i, flags.byte(), capability)
-        }
+        Order::Attach(i, c) => with_capability(5, i, u8::from(c.flags), c.capability),
         Order::Detach(i) => bare(6, i),
         Order::Wait => pack(1, 7, 0, 0, WAIT_MS, 0),
     }
 }
 
 // An event is closed with this answer, after so many orders.
-pub fn closed(answer: Result, orders: u8) -> u64
+pub fn closed(answer: Result<(), psu::Error>, orders: u8) -> u64
     ensures { result ≡ closed_number answer orders }
 {
     match answer {
-        Result::Ok => pack(2, 0, 0, 0, orders as u16, 0),
-        Result::Err(e) => {
+        Ok(()) => pack(2, 0, 0, 0, orders as u16, 0),
+        Err(e) => {
             let m = e.mismatch();
-            pack(2, e.byte(), m.expected(), m.actual(), orders as u16, 0)
+            pack(
+                2,
+                u8::from(e),
+                psu::expected(m),
+                psu::actual(m),
+                orders as u16,
+                0,
+            )
         }
     }
 }
 
 pub fn step(step: Step) -> u64
-    ensures { result ≡ step_number step }
+    ensures { result ≡ step_number (Ok step) }
 {
     match step {
         Step::Order(o) => order(o),
         Step::Closed(answer, orders) => closed(answer, orders),
-        Step::Refused(number) => refused(number),
     }
 }
 
@@ -104,13 +118,10 @@ pub fn written(length: usize) -> u64
 }
 
 // What writing into a buffer gave.
-pub fn stored(w: Written) -> u64
-    ensures { result ≡ written_as w }
+pub fn stored(w: Result<usize, Refusal>) -> u64
+    ensures { result ≡ written_as (numbered w) }
 {
-    match w {
-        Written::Refused(number) => refused(number),
-        Written::Length(length) => written(length),
-    }
+    number_of(w.map(written))
 }
 
 pub fn done() -> u64
@@ -135,37 +146,35 @@ pub fn lost() -> u64
     pack(5, 0, 0, 0, 0, 0)
 }
 
-// Showing a number with its unconstrained figures.
-pub fn shown(s: State, number: u32, d: Display) -> u64
-    ensures { result ≡ shown_number s number d }
+// Showing a picture: its number with the unconstrained figures.
+pub fn shown(s: State, p: Picture) -> u64
+    ensures { result ≡ shown_number s p.number p.display }
 {
-    let u = d.unconstrained;
+    let u = p.display.unconstrained;
     pack(
         5,
         state(s),
         u.unconstrained as u8,
         u.available,
-        (number % 65536) as u16,
-        (number / 65536) as u16,
+        (p.number % 65536) as u16,
+        (p.number / 65536) as u16,
     )
 }
 
-pub fn consumer(consumer: OptionAvailableConsumer) -> u64
+pub fn consumer(consumer: Option<AvailableConsumer>) -> u64
     ensures { result ≡ consumer_number consumer }
 {
     match consumer {
-        OptionAvailableConsumer::None => pack(6, 0, 0, 0, 0, 0),
-        OptionAvailableConsumer::Some(c) => {
-            let capability = c.consumer_power_capability;
-            let power = capability.capability;
-            let flags = capability.flags;
+        None => pack(6, 0, 0, 0, 0, 0),
+        Some(a) => {
+            let c = a.consumer_power_capability;
             pack(
                 6,
                 1,
-                c.psu,
-                flags.byte(),
-                power.voltage_mv,
-                power.current_ma,
+                a.psu,
+                u8::from(c.flags),
+                c.capability.voltage_mv,
+                c.capability.current_ma,
             )
         }
     }
@@ -174,10 +183,9 @@ pub fn consumer(consumer: OptionAvailableConsumer) -> u64
 pub fn tracked(t: Providers) -> u64
     ensures { result ≡ tracked_number t }
 {
-    let count = t.len();
     pack(
         7,
-        count as u8,
+        t.len() as u8,
         (t.mask % 256) as u8,
         (t.mask / 256) as u8,
         0,

@@ -1,5 +1,6 @@
 -- A notice has one encoding: its kind and port, and what follows them by the laws of records. Four notices are those of their list.
 -- Assumes nothing.
+use Rattle.std.specs.Prelude.{None, Option, Some}
 use mathlib.Core.Path.{◌≡◌, refl, ap, sym, subst, ◌∙◌}
 use mathlib.Core.Bool.{Bool, true, false, cond, ◌&&◌}
 use mathlib.Core.List.{List, [], ◌∷◌}
@@ -10,10 +11,9 @@ use lib.ListN.{length, get_or}
 use borrow.Author.Tests.{eqb-true, leb-true, le-leb}
 use Rattle.power_policy_interface.specs.Capability.{bit, disconnect_byte, disconnect_from, reason_byte, capability_fits}
 use Rattle.power_policy_interface.specs.declared.capability.DisconnectReason.{DisconnectReason}
-use Rattle.power_policy_interface.specs.declared.capability.OptionDisconnectReason.{OptionDisconnectReason}
-use Rattle.power_policy_interface.specs.declared.capability.OptionDisconnectFlags.{OptionDisconnectFlags}
-use Rattle.power_policy_interface.specs.declared.capability.OptionConsumerPowerCapability.{OptionConsumerPowerCapability}
-use Rattle.power_policy_interface.specs.declared.capability.OptionProviderPowerCapability.{OptionProviderPowerCapability}
+use Rattle.power_policy_interface.specs.declared.capability.ConsumerPowerCapability.{ConsumerPowerCapability}
+use Rattle.power_policy_interface.specs.declared.capability.DisconnectFlags.{DisconnectFlags}
+use Rattle.power_policy_interface.specs.declared.capability.ProviderPowerCapability.{ProviderPowerCapability}
 use Rattle.power_policy_interface.specs.declared.capability.PowerCapability.{PowerCapability}
 use Rattle.power_policy_interface.specs.declared.service.event.Event.{Event}
 use Rattle.power_policy_interface.proofs.OneByte.{reason_read_write, reason_write_read}
@@ -30,8 +30,6 @@ use Rattle.bytes_groups.proofs.Quads.{Within}
 use Rattle.bytes_groups.proofs.Consumers.{GroupBytes, TaggedBytes, empty_bytes, consumer_bytes_lem, provider_bytes, consumer_within, provider_within, no_group_lem}
 use Rattle.bytes_follower_image.specs.Notice.{pair_group, notice_tagged, place_tagged, rest_zero, reason_read, consumer_read, provider_read, figures_fit, notice_cases, notice_from, is_zero, place_from}
 use Rattle.bytes_follower_image.specs.Slot.{notices_of}
-use Rattle.bytes_follower_image.specs.declared.notice.ReadNotice.{ReadNotice}
-use Rattle.bytes_follower_image.specs.declared.slot.ReadNotices.{ReadNotices}
 
 pub and_left : (a b : Bool) → a && b ≡ true → a ≡ true
 and_left true b e = refl
@@ -45,11 +43,11 @@ and_right false b e = absurd (let z : ◌≡◌ {A = ℕ} 0 1 = cc in omega arit
 
 figures_back : (u : Bool) (a : ℕ) → leb a 16 ≡ true
     → notice_from (notice_tagged (Event.Unconstrained (record { unconstrained = u; available = a })))
-    ≡ ReadNotice.Read (Event.Unconstrained (record { unconstrained = u; available = a }))
+    ≡ Some (Event.Unconstrained (record { unconstrained = u; available = a }))
 figures_back true a h = rw h
 figures_back false a h = rw h
 
-pub notice_back : (e : Event) → notice_fits e ≡ true → notice_from (notice_tagged e) ≡ ReadNotice.Read e
+pub notice_back : (e : Event) → notice_fits e ≡ true → notice_from (notice_tagged e) ≡ Some e
 notice_back (Event.ConsumerDisconnected port f) h = rw h (ap (reason_read port) (reason_read_write f))
 notice_back (Event.ConsumerConnected port c) h =
     let l = and_left (leb port 15) (capability_fits c.capability) h in
@@ -62,14 +60,14 @@ notice_back (Event.Unconstrained u) h = figures_back u.unconstrained u.available
 
 -- four notices, each read back
 
-abbrev pub read_back : Notices → ReadNotices
+abbrev pub read_back : Notices → Option Notices
 read_back n =
-    notices_of n.count (place_from n.count 0 (place_tagged n.count 0 n.first))
-    (place_from n.count 1 (place_tagged n.count 1 n.second))
-    (place_from n.count 2 (place_tagged n.count 2 n.third))
-    (place_from n.count 3 (place_tagged n.count 3 n.fourth))
+    notices_of n.count (place_from n.count 0 (place_tagged n.count 0 (get_or n.events 0 filler)))
+    (place_from n.count 1 (place_tagged n.count 1 (get_or n.events 1 filler)))
+    (place_from n.count 2 (place_tagged n.count 2 (get_or n.events 2 filler)))
+    (place_from n.count 3 (place_tagged n.count 3 (get_or n.events 3 filler)))
 
-list_back : (l : List Event) → length l ≤ 4 → notices_fit l ≡ true → read_back (rebuilt l) ≡ ReadNotices.Read (rebuilt l)
+list_back : (l : List Event) → length l ≤ 4 → notices_fit l ≡ true → read_back (rebuilt l) ≡ Some (rebuilt l)
 list_back [] k h = refl
 list_back (a ∷ []) k h =
     let x = notice_back a (and_left (notice_fits a) _ h) in
@@ -97,9 +95,9 @@ list_back (a ∷ b ∷ c ∷ d ∷ []) k h =
     rw (x, y, z, w)
 list_back (a ∷ b ∷ c ∷ d ∷ e ∷ l) k h = absurd (omega arith)
 
-pub notices_back : (n : Notices) → padded n ≡ true → notices_fit (listed n) ≡ true → read_back n ≡ ReadNotices.Read n
+pub notices_back : (n : Notices) → padded n ≡ true → notices_fit (listed n) ≡ true → read_back n ≡ Some n
 notices_back n p h =
-    subst (λ (m : Notices). read_back m ≡ ReadNotices.Read m) (padded_rebuilt n p) (list_back (listed n) (at_most_four n) h)
+    subst (λ (m : Notices). read_back m ≡ Some m) (padded_rebuilt n p) (list_back (listed n) (at_most_four n p) h)
 
 -- what was read was written so, and is within what a packet has
 
@@ -107,7 +105,7 @@ pub record Noticed (t : Tagged) (e : Event) : Type 0 where
   pub written : t ≡ notice_tagged e
   pub fits : notice_fits e ≡ true
 
-told : (t : Tagged) (d e : Event) → Noticed t d → ReadNotice.Read d ≡ ReadNotice.Read e → Noticed t e
+told : (t : Tagged) (d e : Event) → Noticed t d → Some d ≡ Some e → Noticed t e
 told t d e n q =
     let k : d ≡ e = cc in
     subst (λ (x : Event). Noticed t x) k n
@@ -121,10 +119,10 @@ pair_zero g e =
     let f : g.flags ≡ 0 = omega arith in
     λ i. record { number = g.number; v0 = g.v0; v1 = b i; c0 = c i; c1 = d i; flags = f i }
 
-reason_told : (g : Group) (e : Event) (o : OptionDisconnectFlags) → disconnect_from g.v0 ≡ o → rest_zero g ≡ true → leb g.number 15 ≡ true
-    → reason_read g.number o ≡ ReadNotice.Read e → Noticed (record { tag = 1; group = g }) e
-reason_told g e OptionDisconnectFlags.None p r l q = absurd (let z : ◌≡◌ {A = ℕ} 0 1 = cc in omega arith)
-reason_told g e (OptionDisconnectFlags.Some f) p r l q =
+reason_told : (g : Group) (e : Event) (o : Option DisconnectFlags) → disconnect_from g.v0 ≡ o → rest_zero g ≡ true → leb g.number 15 ≡ true
+    → reason_read g.number o ≡ Some e → Noticed (record { tag = 1; group = g }) e
+reason_told g e None p r l q = absurd (let z : ◌≡◌ {A = ℕ} 0 1 = cc in omega arith)
+reason_told g e (Some f) p r l q =
     told (record { tag = 1; group = g }) (Event.ConsumerDisconnected g.number f) e
     (record {
       written = ap (λ (k : Group). record { tag = 1; group = k })
@@ -134,7 +132,7 @@ reason_told g e (OptionDisconnectFlags.Some f) p r l q =
     q
 
 gone_told : (g : Group) (e : Event) (b : Bool) → rest_zero g ≡ b → leb g.number 15 ≡ true
-    → cond b (reason_read g.number (disconnect_from g.v0)) ReadNotice.Refused ≡ ReadNotice.Read e
+    → cond b (reason_read g.number (disconnect_from g.v0)) None ≡ Some e
     → Noticed (record { tag = 1; group = g }) e
 gone_told g e true p l q = reason_told g e (disconnect_from g.v0) refl p l q
 gone_told g e false p l q = absurd (let z : ◌≡◌ {A = ℕ} 0 1 = cc in omega arith)
@@ -143,10 +141,10 @@ contract_fits_lem : (port : ℕ) (c : PowerCapability) → leb port 15 ≡ true 
 contract_fits_lem port c l w =
     rw (l, le-leb c.voltage_mv 65535 (omega (arith, w.mv)), le-leb c.current_ma 65535 (omega (arith, w.ma)))
 
-consumer_told : (g : Group) (e : Event) (o : OptionConsumerPowerCapability) → consumer_from g ≡ o → GroupBytes g → leb g.number 15 ≡ true
-    → consumer_read g.number o ≡ ReadNotice.Read e → Noticed (record { tag = 2; group = g }) e
-consumer_told g e OptionConsumerPowerCapability.None p h l q = absurd (let z : ◌≡◌ {A = ℕ} 0 1 = cc in omega arith)
-consumer_told g e (OptionConsumerPowerCapability.Some c) p h l q =
+consumer_told : (g : Group) (e : Event) (o : Option ConsumerPowerCapability) → consumer_from g ≡ o → GroupBytes g → leb g.number 15 ≡ true
+    → consumer_read g.number o ≡ Some e → Noticed (record { tag = 2; group = g }) e
+consumer_told g e None p h l q = absurd (let z : ◌≡◌ {A = ℕ} 0 1 = cc in omega arith)
+consumer_told g e (Some c) p h l q =
     told (record { tag = 2; group = g }) (Event.ConsumerConnected g.number c) e
     (record {
       written = ap (λ (k : Group). record { tag = 2; group = k }) (consumer_written g c h.digit p);
@@ -155,7 +153,7 @@ consumer_told g e (OptionConsumerPowerCapability.Some c) p h l q =
     q
 
 left_told : (g : Group) (e : Event) (b : Bool) → all_zero g ≡ b → leb g.number 15 ≡ true
-    → cond b (ReadNotice.Read (Event.ProviderDisconnected g.number)) ReadNotice.Refused ≡ ReadNotice.Read e
+    → cond b (Some (Event.ProviderDisconnected g.number)) None ≡ Some e
     → Noticed (record { tag = 3; group = g }) e
 left_told g e true p l q =
     told (record { tag = 3; group = g }) (Event.ProviderDisconnected g.number) e
@@ -163,10 +161,10 @@ left_told g e true p l q =
     q
 left_told g e false p l q = absurd (let z : ◌≡◌ {A = ℕ} 0 1 = cc in omega arith)
 
-provider_told : (g : Group) (e : Event) (o : OptionProviderPowerCapability) → provider_from g ≡ o → GroupBytes g → leb g.number 15 ≡ true
-    → provider_read g.number o ≡ ReadNotice.Read e → Noticed (record { tag = 4; group = g }) e
-provider_told g e OptionProviderPowerCapability.None p h l q = absurd (let z : ◌≡◌ {A = ℕ} 0 1 = cc in omega arith)
-provider_told g e (OptionProviderPowerCapability.Some c) p h l q =
+provider_told : (g : Group) (e : Event) (o : Option ProviderPowerCapability) → provider_from g ≡ o → GroupBytes g → leb g.number 15 ≡ true
+    → provider_read g.number o ≡ Some e → Noticed (record { tag = 4; group = g }) e
+provider_told g e None p h l q = absurd (let z : ◌≡◌ {A = ℕ} 0 1 = cc in omega arith)
+provider_told g e (Some c) p h l q =
     told (record { tag = 4; group = g }) (Event.ProviderConnected g.number c) e
     (record {
       written = ap (λ (k : Group). record { tag = 4; group = k }) (provider_written g c h.digit p);
@@ -180,8 +178,8 @@ bit_written (suc zero) h = refl
 bit_written (suc (suc n)) h = absurd (omega arith)
 
 figures_told : (g : Group) (e : Event) (b : Bool) → figures_fit g ≡ b
-    → cond b (ReadNotice.Read (Event.Unconstrained (record { unconstrained = eqb g.number 1; available = g.v0 }))) ReadNotice.Refused
-    ≡ ReadNotice.Read e
+    → cond b (Some (Event.Unconstrained (record { unconstrained = eqb g.number 1; available = g.v0 }))) None
+    ≡ Some e
     → Noticed (record { tag = 5; group = g }) e
 figures_told g e true p q =
     let a = and_left (leb g.number 1) (leb g.v0 16 && rest_zero g) p in
@@ -197,7 +195,7 @@ figures_told g e true p q =
 figures_told g e false p q = absurd (let z : ◌≡◌ {A = ℕ} 0 1 = cc in omega arith)
 
 notice_at : (n : ℕ) (g : Group) (e : Event) → GroupBytes g → leb g.number 15 ≡ true
-    → get_or (notice_cases g) n ReadNotice.Refused ≡ ReadNotice.Read e → Noticed (record { tag = n; group = g }) e
+    → get_or (notice_cases g) n None ≡ Some e → Noticed (record { tag = n; group = g }) e
 notice_at zero g e h l q = absurd (let z : ◌≡◌ {A = ℕ} 0 1 = cc in omega arith)
 notice_at (suc zero) g e h l q = gone_told g e (rest_zero g) refl l q
 notice_at (suc (suc zero)) g e h l q = consumer_told g e (consumer_from g) refl h l q
@@ -207,11 +205,11 @@ notice_at (suc (suc (suc (suc (suc zero))))) g e h l q = figures_told g e (figur
 notice_at (suc (suc (suc (suc (suc (suc n)))))) g e h l q = absurd (let z : ◌≡◌ {A = ℕ} 0 1 = cc in omega arith)
 
 notice_tested : (t : Tagged) (e : Event) (b : Bool) → leb t.group.number 15 ≡ b → TaggedBytes t
-    → cond b (get_or (notice_cases t.group) t.tag ReadNotice.Refused) ReadNotice.Refused ≡ ReadNotice.Read e → Noticed t e
+    → cond b (get_or (notice_cases t.group) t.tag None) None ≡ Some e → Noticed t e
 notice_tested t e true l h q = notice_at t.tag t.group e h.group l q
 notice_tested t e false l h q = absurd (let z : ◌≡◌ {A = ℕ} 0 1 = cc in omega arith)
 
-pub notice_read : (t : Tagged) (e : Event) → TaggedBytes t → notice_from t ≡ ReadNotice.Read e → Noticed t e
+pub notice_read : (t : Tagged) (e : Event) → TaggedBytes t → notice_from t ≡ Some e → Noticed t e
 notice_read t e h q = notice_tested t e (leb t.group.number 15) refl h q
 
 -- place k of a count: a notice before it, the filler from it on
@@ -232,20 +230,20 @@ zero_tagged_lem t e =
     λ i. record { tag = a i; group = b i }
 
 past_tested : (count k : ℕ) (t : Tagged) (e : Event) (b : Bool) → is_zero t ≡ b → ltb k count ≡ false
-    → cond b (ReadNotice.Read filler) ReadNotice.Refused ≡ ReadNotice.Read e → Placed count k t e
+    → cond b (Some filler) None ≡ Some e → Placed count k t e
 past_tested count k t e true p l q =
     let f : filler ≡ e = cc in
     record { written = rw l (zero_tagged_lem t p); meant = λ m. absurd (differ (ltb k count) m l); past = λ m. sym f }
 past_tested count k t e false p l q = absurd (let z : ◌≡◌ {A = ℕ} 0 1 = cc in omega arith)
 
 place_tested : (count k : ℕ) (t : Tagged) (e : Event) (b : Bool) → ltb k count ≡ b → TaggedBytes t
-    → cond b (notice_from t) (cond (is_zero t) (ReadNotice.Read filler) ReadNotice.Refused) ≡ ReadNotice.Read e → Placed count k t e
+    → cond b (notice_from t) (cond (is_zero t) (Some filler) None) ≡ Some e → Placed count k t e
 place_tested count k t e true l h q =
     let n = notice_read t e h q in
     record { written = rw l n.written; meant = λ m. n.fits; past = λ m. absurd (differ (ltb k count) l m) }
 place_tested count k t e false l h q = past_tested count k t e (is_zero t) refl l q
 
-pub place_read : (count k : ℕ) (t : Tagged) (e : Event) → TaggedBytes t → place_from count k t ≡ ReadNotice.Read e → Placed count k t e
+pub place_read : (count k : ℕ) (t : Tagged) (e : Event) → TaggedBytes t → place_from count k t ≡ Some e → Placed count k t e
 place_read count k t e h q = place_tested count k t e (ltb k count) refl h q
 
 -- four places make notices in their one form
@@ -255,7 +253,7 @@ pub record Formed (n : Notices) : Type 0 where
   pub fits : notices_fit (listed n) ≡ true
 
 pub formed : (count : ℕ) (ta tb tc td : Tagged) (a b c d : Event) → count ≤ 4 → Placed count 0 ta a → Placed count 1 tb b → Placed count 2 tc c
-    → Placed count 3 td d → Formed (record { count = count; first = a; second = b; third = c; fourth = d })
+    → Placed count 3 td d → Formed (record { count = count; events = a ∷ b ∷ c ∷ d ∷ [] })
 formed zero ta tb tc td a b c d k pa pb pc pd =
     record { form = rw (pa.past refl, pb.past refl, pc.past refl, pd.past refl); fits = refl }
 formed (suc zero) ta tb tc td a b c d k pa pb pc pd =
@@ -289,14 +287,14 @@ bit_small : (u : Bool) → bit u < 256
 bit_small true = omega arith
 bit_small false = omega arith
 
-reason_small : (r : OptionDisconnectReason) → reason_byte r < 256
-reason_small OptionDisconnectReason.None = omega arith
-reason_small (OptionDisconnectReason.Some DisconnectReason.Detached) = omega arith
-reason_small (OptionDisconnectReason.Some DisconnectReason.Switching) = omega arith
-reason_small (OptionDisconnectReason.Some DisconnectReason.AutoRenegotiation) = omega arith
-reason_small (OptionDisconnectReason.Some DisconnectReason.ManualRenegotiation) = omega arith
-reason_small (OptionDisconnectReason.Some DisconnectReason.RoleSwap) = omega arith
-reason_small (OptionDisconnectReason.Some DisconnectReason.Reset) = omega arith
+reason_small : (r : Option DisconnectReason) → reason_byte r < 256
+reason_small None = omega arith
+reason_small (Some DisconnectReason.Detached) = omega arith
+reason_small (Some DisconnectReason.Switching) = omega arith
+reason_small (Some DisconnectReason.AutoRenegotiation) = omega arith
+reason_small (Some DisconnectReason.ManualRenegotiation) = omega arith
+reason_small (Some DisconnectReason.RoleSwap) = omega arith
+reason_small (Some DisconnectReason.Reset) = omega arith
 
 pub notice_bytes_lem : (e : Event) → notice_fits e ≡ true → TaggedBytes (notice_tagged e)
 notice_bytes_lem (Event.ConsumerDisconnected port f) h =

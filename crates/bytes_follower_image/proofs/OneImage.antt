@@ -1,10 +1,11 @@
 -- A follower has one image: the head, the display and the slots each have one encoding. What is read is well formed, place by place.
 -- Assumes nothing.
+use Rattle.std.specs.Prelude.{None, Option, Some}
 use mathlib.Core.Path.{◌≡◌, refl, ap, sym, subst, ◌∙◌}
 use mathlib.Core.Bool.{Bool, true, false, cond, ◌&&◌, ◌||◌}
 use mathlib.Core.List.{List, ◌∷◌, ◌++◌}
 use mathlib.Core.Logic.{◌⊎◌, inl, inr, ⊎_elim}
-use mathlib.Core.Option.{Option, none, some}
+use Rattle.interface_display.specs.declared.AvailableConsumer.{AvailableConsumer}
 use Prim.Native.Nat.{ℕ, zero, suc, ◌+◌, ◌*◌, ◌%◌, ◌≤◌, ◌<◌}
 use native.Mathlib.Nat.{add-zero}
 use native.Mathlib.Omega.{arith}
@@ -17,7 +18,6 @@ use Rattle.power_policy_interface.specs.Capability.{capability_fits}
 use Rattle.interface_records.specs.Row.{AllBytes}
 use Rattle.interface_display.specs.Providers.{len}
 use Rattle.interface_display.specs.declared.Display.{Display}
-use Rattle.interface_display.specs.declared.OptionAvailableConsumer.{OptionAvailableConsumer}
 use Rattle.interface_display.specs.declared.packet.EventPacket.{EventPacket}
 use Rattle.interface_display.specs.declared.packet.Picture.{Picture}
 use Rattle.wire.specs.WellFormed.{consumer_fits, event_fits, picture_fits}
@@ -32,17 +32,16 @@ use Rattle.desk_follower.proofs.Kept.{mod8, none_at, fresh_kept}
 use Rattle.desk_follower.proofs.Decided.{decided, decides}
 use Rattle.bytes_groups.specs.Quad.{quad_at, quad_bytes, number_quad, number_from}
 use Rattle.bytes_groups.specs.Shown.{shown_at, shown_bytes, display_shown, display_from}
-use Rattle.bytes_groups.specs.declared.shown.ReadDisplay.{ReadDisplay}
 use Rattle.bytes_groups.proofs.Places as places
-use Rattle.bytes_groups.proofs.Places.{gets, Below}
+use Rattle.bytes_groups.proofs.Places.{Below}
+use Rattle.interface_records.proofs.OneRecord.{gets}
 use Rattle.bytes_groups.proofs.Quads.{quad_at_lem, quad_bytes_lem, number_back, number_written, number_within, number_bytes}
 use Rattle.bytes_groups.proofs.Consumers.{ConsumerWithin}
 use Rattle.bytes_groups.proofs.Displays.{DisplayWithin, shown_at_lem, shown_bytes_lem, display_back, display_bytes_lem, Displayed, display_read}
 use Rattle.bytes_follower_image.specs.Slot.{zeros}
 use Rattle.bytes_follower_image.specs.Held.{held_bytes, held_from}
 use Rattle.bytes_follower_image.specs.Fits.{held_fits, shown_fits, image_fits}
-use Rattle.bytes_follower_image.specs.Image.{lost_bytes, showing_bytes, bytes_at, follower_bytes, port_fits, display_fits, showing_with, showing_of, showing_in, follower_cases, follower_in, follower_read, follower_from}
-use Rattle.bytes_follower_image.specs.declared.ReadFollower.{ReadFollower}
+use Rattle.bytes_follower_image.specs.Image.{lost_bytes, showing_bytes, bytes_at, follower_bytes, port_fits, display_fits, showing_with, showing_of, showing_in, follower_cases, follower_from}
 use Rattle.bytes_follower_image.proofs.Notices.{and_left, and_right}
 use Rattle.bytes_follower_image.proofs.Slots.{parts, Told, zeros_written, zero_bytes}
 use Rattle.bytes_follower_image.proofs.Rows.{row_length, row_below, row_back, row_restored, row_read, Rowed, owner, owned, not_owned, drop_bytes}
@@ -68,7 +67,7 @@ unfolding all_places
 all_places_lem t zero h f = refl
 all_places_lem t (suc k) h f = rw (all_places_lem t k h (λ i l. f i (omega (arith, l))), f k (omega arith))
 
--- a packet that is held: none, or within what a packet has
+-- a packet that is held: None, or within what a packet has
 pub record Fit (p : EventPacket) : Type 0 where
   pub fit : (p ≡ held.none) ⊎ (event_fits p ≡ true)
 
@@ -152,13 +151,13 @@ picture_whole n d h =
 
 -- a display that fits passes the reader's test, and is within its types
 
-port_tested : (c : OptionAvailableConsumer) → consumer_fits c ≡ true → port_fits c ≡ true
-port_tested OptionAvailableConsumer.None e = refl
-port_tested (OptionAvailableConsumer.Some c) e = and_left (leb c.psu 15) (capability_fits c.consumer_power_capability.capability) e
+port_tested : (c : Option AvailableConsumer) → consumer_fits c ≡ true → port_fits c ≡ true
+port_tested None e = refl
+port_tested (Some c) e = and_left (leb c.psu 15) (capability_fits c.consumer_power_capability.capability) e
 
-consumer_within : (c : OptionAvailableConsumer) → consumer_fits c ≡ true → ConsumerWithin c
-consumer_within OptionAvailableConsumer.None e = tt
-consumer_within (OptionAvailableConsumer.Some c) e =
+consumer_within : (c : Option AvailableConsumer) → consumer_fits c ≡ true → ConsumerWithin c
+consumer_within None e = tt
+consumer_within (Some c) e =
     let p = c.consumer_power_capability.capability in
     let l = leb-true c.psu 15 (and_left (leb c.psu 15) (capability_fits p) e) in
     let r = and_right (leb c.psu 15) (capability_fits p) e in
@@ -166,9 +165,9 @@ consumer_within (OptionAvailableConsumer.Some c) e =
     let a = leb-true p.current_ma 65535 (and_right (leb p.voltage_mv 65535) (leb p.current_ma 65535) r) in
     (omega (arith, l), record { mv = omega (arith, v); ma = omega (arith, a) })
 
-consumer_fits_lem : (c : OptionAvailableConsumer) → port_fits c ≡ true → ConsumerWithin c → consumer_fits c ≡ true
-consumer_fits_lem OptionAvailableConsumer.None e w = refl
-consumer_fits_lem (OptionAvailableConsumer.Some c) e w =
+consumer_fits_lem : (c : Option AvailableConsumer) → port_fits c ≡ true → ConsumerWithin c → consumer_fits c ≡ true
+consumer_fits_lem None e w = refl
+consumer_fits_lem (Some c) e w =
     let p = c.consumer_power_capability.capability in
     rw (e, le-leb p.voltage_mv 65535 (omega (arith, w.1.mv)), le-leb p.current_ma 65535 (omega (arith, w.1.ma)))
 
@@ -241,31 +240,31 @@ follower_bytes_lem f e = (bytes_at_lem f.shown f.held (fits f e)).bytes
 
 -- reading what was written
 
-pub lost_back : (floor : ℕ) → follower_in (lost_bytes floor) ≡ some (lost floor)
+pub lost_back : (floor : ℕ) → follower_from (lost_bytes floor) ≡ Some (lost floor)
 unfolding zeros
-lost_back floor = ap (λ (n : ℕ). some (lost n)) (number_back floor)
+lost_back floor = ap (λ (n : ℕ). Some (lost n)) (number_back floor)
 
-pub held_back : (s : Picture) (h : Held) → Fits (Shown.Picture s) h → held_from s.number (held_bytes s.number h) ≡ some h
+pub held_back : (s : Picture) (h : Held) → Fits (Shown.Picture s) h → held_from s.number (held_bytes s.number h) ≡ Some h
 held_back s h f =
     row_back (s.number + 2) 7 h nothing (held_told s.number h f.formed.1 f.places)
-    ∙ ap some (row_restored s.number h f.formed.1.0 (held_next_lem s.number h f.formed.1))
+    ∙ ap Some (row_restored s.number h f.formed.1.0 (held_next_lem s.number h f.formed.1))
 
-showing_back : (s : Picture) (h : Held) → Fits (Shown.Picture s) h → showing_in (showing_bytes s h) ≡ some (showing s h)
+showing_back : (s : Picture) (h : Held) → Fits (Shown.Picture s) h → showing_in (showing_bytes s h) ≡ Some (showing s h)
 showing_back s h f =
     let n = s.number in
     let p = picture_parts s f.shown in
     let x : showing_of (number_from (number_quad n)) (display_from (display_shown s.display)) (held_from (number_from (number_quad n)) (held_bytes n h))
-    ≡ showing_of n (ReadDisplay.Read s.display) (some h) =
+    ≡ showing_of n (Some s.display) (Some h) =
     rw (number_back n, display_back s.display, held_back s h f) in
     x ∙ rw (display_tested n s.display p)
 
-back_at : (x : Shown) (h : Held) → Fits x h → follower_in (bytes_at x h) ≡ some (record { shown = x; held = h })
+back_at : (x : Shown) (h : Held) → Fits x h → follower_from (bytes_at x h) ≡ Some (record { shown = x; held = h })
 back_at (Shown.Lost floor) h f =
-    lost_back floor ∙ ap (λ (g : Held). some (record { shown = Shown.Lost floor; held = g })) (sym f.formed.1)
+    lost_back floor ∙ ap (λ (g : Held). Some (record { shown = Shown.Lost floor; held = g })) (sym f.formed.1)
 back_at (Shown.Picture s) h f = rw (eq-eqb (length (showing_bytes s h)) 241 (length_at (Shown.Picture s) h)) (showing_back s h f)
 
-pub follower_read_write : (f : Follower) → image_fits f ≡ true → follower_from (follower_bytes f) ≡ record { ok = true; follower = f }
-follower_read_write f e = ap follower_read (back_at f.shown f.held (fits f e))
+pub follower_read_write : (f : Follower) → image_fits f ≡ true → follower_from (follower_bytes f) ≡ Some f
+follower_read_write f e = back_at f.shown f.held (fits f e)
 
 -- what was read was written so, and fits
 
@@ -282,7 +281,7 @@ gets_drop s j (suc n) l =
     ∙ ap (λ (r : List ℕ). get_or s j 0 ∷ r) (gets_drop s (suc j) n (omega (arith, l)) ∙ ap (λ (k : ℕ). gets s (suc j) n ++ drop k s) (sym e))
 
 lost_tested : (b : List ℕ) (f : Follower) (t : Bool) → zeros (drop 6 b) ≡ t → AllBytes b → length b ≡ 241 → get_or b 0 0 ≡ 2 → get_or b 1 0 ≡ 0
-    → cond t (some (lost (number_from (quad_at b 2)))) none ≡ some f → Written b f
+    → cond t (Some (lost (number_from (quad_at b 2)))) None ≡ Some f → Written b f
 lost_tested b f true z a e x y q =
     let k : lost (number_from (quad_at b 2)) ≡ f = cc in
     let n = number_from (quad_at b 2) in
@@ -350,9 +349,9 @@ module _ (b : List ℕ) (a : AllBytes b) (e : length b ≡ 241) where
       subst (λ (j : Follower). Written b j) k (record { bytes = sym (g ∙ u); fits = fitted (showing (at n d) h) c })
 
   held_case : (d : Display) (m : Option Held) (f : Follower) → get_or b 0 0 ≡ 2 → get_or b 1 0 ≡ 1 → Displayed (shown_at b 6) d → display_fits d ≡ true
-      → held_from (number_from (quad_at b 2)) (drop 17 b) ≡ m → showing_with (at (number_from (quad_at b 2)) d) m ≡ some f → Written b f
-  held_case d none f x y o t r q = absurd (let z : ◌≡◌ {A = ℕ} 0 1 = cc in omega arith)
-  held_case d (some h) f x y o t r q =
+      → held_from (number_from (quad_at b 2)) (drop 17 b) ≡ m → showing_with (at (number_from (quad_at b 2)) d) m ≡ Some f → Written b f
+  held_case d None f x y o t r q = absurd (let z : ◌≡◌ {A = ℕ} 0 1 = cc in omega arith)
+  held_case d (Some h) f x y o t r q =
       let k : showing (at (number_from (quad_at b 2)) d) h ≡ f = cc in
       let l : length (drop 17 b) ≡ 7 * 32 = length-drop 17 b ∙ omega (arith, e) in
       showing_made d h f x y o t
@@ -360,41 +359,35 @@ module _ (b : List ℕ) (a : AllBytes b) (e : length b ≡ 241) where
       k
 
   fits_case : (d : Display) (f : Follower) (t : Bool) → display_fits d ≡ t → get_or b 0 0 ≡ 2 → get_or b 1 0 ≡ 1 → Displayed (shown_at b 6) d
-      → cond t (showing_with (at (number_from (quad_at b 2)) d) (held_from (number_from (quad_at b 2)) (drop 17 b))) none ≡ some f → Written b f
+      → cond t (showing_with (at (number_from (quad_at b 2)) d) (held_from (number_from (quad_at b 2)) (drop 17 b))) None ≡ Some f → Written b f
   fits_case d f true t x y o q = held_case d (held_from (number_from (quad_at b 2)) (drop 17 b)) f x y o t refl q
   fits_case d f false t x y o q = absurd (let z : ◌≡◌ {A = ℕ} 0 1 = cc in omega arith)
 
-  display_case : (r : ReadDisplay) (f : Follower) → display_from (shown_at b 6) ≡ r → get_or b 0 0 ≡ 2 → get_or b 1 0 ≡ 1
-      → showing_of (number_from (quad_at b 2)) r (held_from (number_from (quad_at b 2)) (drop 17 b)) ≡ some f → Written b f
-  display_case ReadDisplay.Refused f r x y q = absurd (let z : ◌≡◌ {A = ℕ} 0 1 = cc in omega arith)
-  display_case (ReadDisplay.Read d) f r x y q =
+  display_case : (r : Option Display) (f : Follower) → display_from (shown_at b 6) ≡ r → get_or b 0 0 ≡ 2 → get_or b 1 0 ≡ 1
+      → showing_of (number_from (quad_at b 2)) r (held_from (number_from (quad_at b 2)) (drop 17 b)) ≡ Some f → Written b f
+  display_case None f r x y q = absurd (let z : ◌≡◌ {A = ℕ} 0 1 = cc in omega arith)
+  display_case (Some d) f r x y q =
       fits_case d f (display_fits d) refl x y (display_read (shown_at b 6) d (shown_at_lem b 6 a) r) q
 
-  kind_case : (k : ℕ) (f : Follower) → get_or b 1 0 ≡ k → get_or b 0 0 ≡ 2 → get_or (follower_cases b) k none ≡ some f → Written b f
+  kind_case : (k : ℕ) (f : Follower) → get_or b 1 0 ≡ k → get_or b 0 0 ≡ 2 → get_or (follower_cases b) k None ≡ Some f → Written b f
   kind_case zero f y x q = lost_tested b f (zeros (drop 6 b)) refl a e x y q
   kind_case (suc zero) f y x q = display_case (display_from (shown_at b 6)) f refl x y q
   kind_case (suc (suc k)) f y x q = absurd (let z : ◌≡◌ {A = ℕ} 0 1 = cc in omega arith)
 
 written_tested : (b : List ℕ) (f : Follower) (s t : Bool) → eqb (length b) 241 ≡ s → eqb (get_or b 0 0) 2 ≡ t → AllBytes b
-    → cond (s && t) (get_or (follower_cases b) (get_or b 1 0) none) none ≡ some f → Written b f
+    → cond (s && t) (get_or (follower_cases b) (get_or b 1 0) None) None ≡ Some f → Written b f
 written_tested b f true true p r a q =
     kind_case b a (eqb-true (length b) 241 p) (get_or b 1 0) f refl (eqb-true (get_or b 0 0) 2 r) q
 written_tested b f true false p r a q = absurd (let z : ◌≡◌ {A = ℕ} 0 1 = cc in omega arith)
 written_tested b f false t p r a q = absurd (let z : ◌≡◌ {A = ℕ} 0 1 = cc in omega arith)
 
-in_told : (o : Option Follower) (f : Follower) → follower_read o ≡ record { ok = true; follower = f } → o ≡ some f
-in_told none f e =
-    let k : false ≡ true = ap (λ (r : ReadFollower). r.ok) e in
-    absurd (let z : ◌≡◌ {A = ℕ} 0 1 = cc in omega arith)
-in_told (some g) f e = ap some (ap (λ (r : ReadFollower). r.follower) e)
+written_so : (b : List ℕ) (f : Follower) → AllBytes b → follower_from b ≡ Some f → Written b f
+written_so b f a e = written_tested b f (eqb (length b) 241) (eqb (get_or b 0 0) 2) refl refl a e
 
-written_so : (b : List ℕ) (f : Follower) → AllBytes b → follower_from b ≡ record { ok = true; follower = f } → Written b f
-written_so b f a e = written_tested b f (eqb (length b) 241) (eqb (get_or b 0 0) 2) refl refl a (in_told (follower_in b) f e)
-
-pub follower_write_read : (b : List ℕ) (f : Follower) → AllBytes b → follower_from b ≡ record { ok = true; follower = f } → follower_bytes f ≡ b
+pub follower_write_read : (b : List ℕ) (f : Follower) → AllBytes b → follower_from b ≡ Some f → follower_bytes f ≡ b
 follower_write_read b f a e = (written_so b f a e).bytes
 
-pub follower_read_fits : (b : List ℕ) (f : Follower) → AllBytes b → follower_from b ≡ record { ok = true; follower = f } → image_fits f ≡ true
+pub follower_read_fits : (b : List ℕ) (f : Follower) → AllBytes b → follower_from b ≡ Some f → image_fits f ≡ true
 follower_read_fits b f a e = (written_so b f a e).fits
 
 -- a fresh follower has an image

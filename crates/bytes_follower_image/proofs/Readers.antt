@@ -1,9 +1,10 @@
 -- For the readers: bytes that are to be zeros, of which what is left decides, and what was read of the slots.
 -- Assumes nothing.
+use Rattle.std.specs.Prelude.{None, Option, Some}
+use Rattle.std.specs.Bool.{then_some}
 use mathlib.Core.Path.{◌≡◌, refl, ap, sym, ◌∙◌}
 use mathlib.Core.Bool.{Bool, true, false, cond, ◌&&◌}
 use mathlib.Core.List.{List}
-use mathlib.Core.Option.{Option, none, some}
 use Prim.Native.Nat.{ℕ, suc, ◌+◌, ◌≤◌, ◌<◌}
 use native.Mathlib.Numerals.{add-one}
 use lib.ListN.{length, get_or, drop, drop_of_length-le}
@@ -15,10 +16,9 @@ use Rattle.desk_follower.specs.declared.held.Held.{Held}
 use Rattle.bytes_follower_image.specs.Slot.{zeros}
 use Rattle.bytes_groups.specs.Quad.{quad_at, number_from}
 use Rattle.bytes_groups.specs.Shown.{shown_at, display_from}
-use Rattle.bytes_groups.specs.declared.shown.ReadDisplay.{ReadDisplay}
 use Rattle.bytes_follower_image.specs.Held.{held_from, is_held}
 use Rattle.bytes_follower_image.specs.Image.{display_fits, showing_with, showing_of, showing_in, shown_read}
-use Rattle.bytes_follower_image.specs.declared.ReadShown.{ReadShown}
+use Rattle.desk_follower.specs.declared.Shown.{Shown}
 
 -- z says whether the bytes passed are zeros
 
@@ -48,31 +48,22 @@ module _ (s : List ℕ) (i : ℕ) (z : Bool) (q : zeros s ≡ (z && zeros (drop 
 -- showing, by what is read of the display and whether the slots are slots
 
 module _ (s : List ℕ) where
-  abbrev picture_by : ReadDisplay → ReadShown
+  abbrev picture_by : Option Display → Option Shown
   picture_by r = shown_read (showing_of (number_from (quad_at s 2)) r (held_from (number_from (quad_at s 2)) (drop 17 s)))
 
-  pub picture_refused : display_from (shown_at s 6) ≡ ReadDisplay.Refused → ReadShown.Refused ≡ shown_read (showing_in s)
-  picture_refused e = sym (ap picture_by e)
+  picture_with : (n : ℕ) (d : Display) (o : Option Held) → then_some (is_held o) (Shown.Picture (at n d)) ≡ shown_read (showing_with (at n d) o)
+  picture_with n d None = refl
+  picture_with n d (Some h) = refl
 
-  pub picture_unfit : (d : Display) → display_from (shown_at s 6) ≡ ReadDisplay.Read d → display_fits d ≡ false → ReadShown.Refused ≡ shown_read (showing_in s)
-  picture_unfit d e f =
-      let q : picture_by (ReadDisplay.Read d) ≡ ReadShown.Refused = rw f in
-      sym (ap picture_by e ∙ q)
-
-  picture_with : (n : ℕ) (d : Display) (o : Option Held) → cond (is_held o) (ReadShown.Picture (at n d)) ReadShown.Refused ≡ shown_read (showing_with (at n d) o)
-  picture_with n d none = refl
-  picture_with n d (some h) = refl
-
-  pub picture_given : (n : ℕ) (d : Display) (t : Bool) → display_from (shown_at s 6) ≡ ReadDisplay.Read d → display_fits d ≡ true
-      → n ≡ number_from (quad_at s 2) → is_held (held_from n (drop 17 s)) ≡ t
-      → cond t (ReadShown.Picture (at n d)) ReadShown.Refused ≡ shown_read (showing_in s)
-  picture_given n d t e f m q =
-      let x : cond t (ReadShown.Picture (at n d)) ReadShown.Refused ≡ shown_read (showing_with (at n d) (held_from n (drop 17 s))) =
-      ap (λ (b : Bool). cond b (ReadShown.Picture (at n d)) ReadShown.Refused) (sym q) ∙ picture_with n d (held_from n (drop 17 s)) in
-      let y : shown_read (showing_with (at n d) (held_from n (drop 17 s)))
-      ≡ shown_read (showing_with (at (number_from (quad_at s 2)) d) (held_from (number_from (quad_at s 2)) (drop 17 s))) =
-      ap (λ (k : ℕ). shown_read (showing_with (at k d) (held_from k (drop 17 s)))) m in
-      let z : picture_by (ReadDisplay.Read d)
-      ≡ shown_read (showing_with (at (number_from (quad_at s 2)) d) (held_from (number_from (quad_at s 2)) (drop 17 s))) =
-      rw f in
-      x ∙ (y ∙ sym (ap picture_by e ∙ z))
+  -- v: the display is within a picture's, and the slots are slots
+  pub picture_given : (n : ℕ) (d : Display) (v : Bool) → display_from (shown_at s 6) ≡ Some d → n ≡ number_from (quad_at s 2)
+      → v ≡ (display_fits d && is_held (held_from n (drop 17 s))) → then_some v (Shown.Picture (at n d)) ≡ shown_read (showing_in s)
+  picture_given n d v e m q =
+      ap (λ (b : Bool). then_some b (Shown.Picture (at n d))) q
+      ∙ (by (display_fits d)
+      ∙ (ap (λ (k : ℕ). shown_read (cond (display_fits d) (showing_with (at k d) (held_from k (drop 17 s))) None)) m ∙ sym (ap picture_by e)))
+    where
+      by : (t : Bool) → then_some (t && is_held (held_from n (drop 17 s))) (Shown.Picture (at n d))
+          ≡ shown_read (cond t (showing_with (at n d) (held_from n (drop 17 s))) None)
+      by true = picture_with n d (held_from n (drop 17 s))
+      by false = refl

@@ -1,10 +1,10 @@
 -- The row of slots has one encoding: the places of up to eight events one after the other differ, so each slot is put where it is found
 -- again, and a place that no slot is put into stays.
 -- Assumes nothing.
+use Rattle.std.specs.Prelude.{None, Option, Some}
 use mathlib.Core.Path.{◌≡◌, refl, ap, sym, subst, ◌∙◌}
 use mathlib.Core.Bool.{Bool, true, false}
 use mathlib.Core.List.{List, [], ◌∷◌, ◌++◌}
-use mathlib.Core.Option.{Option, none, some}
 use Prim.Native.Nat.{ℕ, zero, suc, ◌+◌, ◌*◌, ◌-◌, ◌%◌, ◌≤◌, ◌<◌}
 use native.Mathlib.Nat.{suc-mul}
 use native.Mathlib.Omega.{arith}
@@ -22,7 +22,6 @@ use Rattle.bytes_groups.proofs.Places as places
 use Rattle.bytes_groups.proofs.Places.{Below}
 use Rattle.bytes_follower_image.specs.Slot.{slot_bytes, slot_from, is_read}
 use Rattle.bytes_follower_image.specs.Held.{slots, slot_then, slots_from, is_held}
-use Rattle.bytes_follower_image.specs.declared.slot.ReadSlot.{ReadSlot}
 use Rattle.bytes_follower_image.proofs.Slots.{Told, slot_length, slot_back, slot_read, slot_below}
 
 -- event m and the k - 1 after it have places of their own
@@ -49,7 +48,7 @@ restored m zero h g = g
 restored m (suc k) h g = restored (suc m) k h (put g (m % 8) (held_for h m))
 
 pub row_back : (m k : ℕ) (h g : Held) → ((j : ℕ) → m ≤ j → j < m + k → Told j (held_for h j))
-    → slots_from m k (written slot_bytes (slots m k h)) g ≡ some (restored m k h g)
+    → slots_from m k (written slot_bytes (slots m k h)) g ≡ Some (restored m k h g)
 row_back m zero h g t = refl
 row_back m (suc k) h g t =
     let p = held_for h m in
@@ -134,7 +133,7 @@ pub record Rowed (m k : ℕ) (s : List ℕ) (h g : Held) : Type 0 where
   pub others : (i : ℕ) → ((j : ℕ) → m ≤ j → j < m + k → i ≡ j % 8 → ⊥) → packet_at g i ≡ packet_at h i
   pub size : length g.packets ≡ 8
 
-none_rowed : (m : ℕ) (s : List ℕ) (h g : Held) → length s ≡ 0 * 32 → length h.packets ≡ 8 → some h ≡ some g → Rowed m 0 s h g
+none_rowed : (m : ℕ) (s : List ℕ) (h g : Held) → length s ≡ 0 * 32 → length h.packets ≡ 8 → Some h ≡ Some g → Rowed m 0 s h g
 none_rowed m [] h g e l q =
     let k : h ≡ g = cc in
     subst (λ (x : Held). Rowed m 0 [] h x) k
@@ -142,7 +141,7 @@ none_rowed m [] h g e l q =
 none_rowed m (x ∷ s) h g e l q = absurd (omega (arith, e))
 
 one_rowed : (m k : ℕ) (s : List ℕ) (h g : Held) (p : EventPacket) → 0 < m → suc k ≤ 8 → AllBytes s → length s ≡ suc k * 32
-    → length h.packets ≡ 8 → slot_from m (take 32 s) ≡ ReadSlot.Read p → Rowed (suc m) k (drop 32 s) (put h (m % 8) p) g
+    → length h.packets ≡ 8 → slot_from m (take 32 s) ≡ Some p → Rowed (suc m) k (drop 32 s) (put h (m % 8) p) g
     → Rowed m (suc k) s h g
 one_rowed m k s h g p l c a e z q r =
     let f : length s ≡ k * 32 + 32 = e ∙ suc-mul k 32 in
@@ -168,13 +167,13 @@ one_rowed m k s h g p l c a e z q r =
         subst (λ (i : ℕ). Told i (held_for g i)) (sym x) (subst (λ (i : EventPacket). Told m i) (sym y) w)
     told j u v false t y w = r.told j (omega (arith, u, eqb-false j m t)) (omega (arith, v))
 
-then_told : (x : ReadSlot) (f : EventPacket → Option Held) (g : Held) → slot_then x f ≡ some g
-    → (p : EventPacket) × (x ≡ ReadSlot.Read p) × (f p ≡ some g)
-then_told ReadSlot.Refused f g e = absurd (let z : ◌≡◌ {A = ℕ} 0 1 = cc in omega arith)
-then_told (ReadSlot.Read p) f g e = (p, refl, e)
+then_told : (x : Option EventPacket) (f : EventPacket → Option Held) (g : Held) → slot_then x f ≡ Some g
+    → (p : EventPacket) × (x ≡ Some p) × (f p ≡ Some g)
+then_told None f g e = absurd (let z : ◌≡◌ {A = ℕ} 0 1 = cc in omega arith)
+then_told (Some p) f g e = (p, refl, e)
 
 pub row_read : (m k : ℕ) (s : List ℕ) (h g : Held) → 0 < m → k ≤ 8 → AllBytes s → length s ≡ k * 32 → length h.packets ≡ 8
-    → slots_from m k s h ≡ some g → Rowed m k s h g
+    → slots_from m k s h ≡ Some g → Rowed m k s h g
 row_read m zero s h g l c a e z q = none_rowed m s h g e z q
 row_read m (suc k) s h g l c a e z q =
     let t = then_told (slot_from m (take 32 s)) (λ p. slots_from (suc m) k (drop 32 s) (put h (m % 8) p)) g q in
@@ -201,29 +200,29 @@ module _ (m k : ℕ) (s : List ℕ) (h : Held) where
       let c : m + (i + 1) ≡ suc (m + i) = omega arith in
       rw (a, b, c, ← drop-drop 32 (i * 32) s)
 
-  pub slot_taken : (i : ℕ) (p : EventPacket) → i < k → slot_from (m + i) (take 32 (drop (i * 32) s)) ≡ ReadSlot.Read p
+  pub slot_taken : (i : ℕ) (p : EventPacket) → i < k → slot_from (m + i) (take 32 (drop (i * 32) s)) ≡ Some p
       → slots_from (m + i) (k - i) (drop (i * 32) s) h
       ≡ slots_from (m + (i + 1)) (k - (i + 1)) (drop ((i + 1) * 32) s) (put h ((m + i) % 8) p)
   slot_taken i p l e =
       next_slot i l
-      ∙ ap (λ (x : ReadSlot). slot_then x (λ q. slots_from (m + (i + 1)) (k - (i + 1)) (drop ((i + 1) * 32) s) (put h ((m + i) % 8) q))) e
+      ∙ ap (λ (x : Option EventPacket). slot_then x (λ q. slots_from (m + (i + 1)) (k - (i + 1)) (drop ((i + 1) * 32) s) (put h ((m + i) % 8) q))) e
 
-  pub slot_refused : (i : ℕ) → i < k → slot_from (m + i) (take 32 (drop (i * 32) s)) ≡ ReadSlot.Refused
-      → slots_from (m + i) (k - i) (drop (i * 32) s) h ≡ none
+  pub slot_refused : (i : ℕ) → i < k → slot_from (m + i) (take 32 (drop (i * 32) s)) ≡ None
+      → slots_from (m + i) (k - i) (drop (i * 32) s) h ≡ None
   slot_refused i l e =
       next_slot i l
-      ∙ ap (λ (x : ReadSlot). slot_then x (λ q. slots_from (m + (i + 1)) (k - (i + 1)) (drop ((i + 1) * 32) s) (put h ((m + i) % 8) q))) e
+      ∙ ap (λ (x : Option EventPacket). slot_then x (λ q. slots_from (m + (i + 1)) (k - (i + 1)) (drop ((i + 1) * 32) s) (put h ((m + i) % 8) q))) e
 
-  pub slots_end : (i : ℕ) → k ≤ i → slots_from (m + i) (k - i) (drop (i * 32) s) h ≡ some h
+  pub slots_end : (i : ℕ) → k ≤ i → slots_from (m + i) (k - i) (drop (i * 32) s) h ≡ Some h
   slots_end i l =
       let a : k - i ≡ 0 = omega (arith, l) in
       rw a
 
 -- whether the slots are slots does not rest on what they are put into
 
-free_then : (x : ReadSlot) (f g : EventPacket → Option Held) → ((p : EventPacket) → is_held (f p) ≡ is_held (g p)) → is_held (slot_then x f) ≡ is_held (slot_then x g)
-free_then ReadSlot.Refused f g e = refl
-free_then (ReadSlot.Read p) f g e = e p
+free_then : (x : Option EventPacket) (f g : EventPacket → Option Held) → ((p : EventPacket) → is_held (f p) ≡ is_held (g p)) → is_held (slot_then x f) ≡ is_held (slot_then x g)
+free_then None f g e = refl
+free_then (Some p) f g e = e p
 
 pub slots_free : (m k : ℕ) (s : List ℕ) (h g : Held) → is_held (slots_from m k s h) ≡ is_held (slots_from m k s g)
 slots_free m zero s h g = refl
@@ -231,10 +230,10 @@ slots_free m (suc k) s h g =
     free_then (slot_from m (take 32 s)) (λ p. slots_from (suc m) k (drop 32 s) (put h (m % 8) p))
     (λ p. slots_from (suc m) k (drop 32 s) (put g (m % 8) p)) (λ p. slots_free (suc m) k (drop 32 s) (put h (m % 8) p) (put g (m % 8) p))
 
-pub slot_is_read : (x : ReadSlot) → is_read x ≡ true → (p : EventPacket) × (x ≡ ReadSlot.Read p)
-slot_is_read ReadSlot.Refused e = absurd (let z : ◌≡◌ {A = ℕ} 0 1 = cc in omega arith)
-slot_is_read (ReadSlot.Read p) e = (p, refl)
+pub slot_is_read : (x : Option EventPacket) → is_read x ≡ true → (p : EventPacket) × (x ≡ Some p)
+slot_is_read None e = absurd (let z : ◌≡◌ {A = ℕ} 0 1 = cc in omega arith)
+slot_is_read (Some p) e = (p, refl)
 
-pub slot_is_refused : (x : ReadSlot) → is_read x ≡ false → x ≡ ReadSlot.Refused
-slot_is_refused ReadSlot.Refused e = refl
-slot_is_refused (ReadSlot.Read p) e = absurd (let z : ◌≡◌ {A = ℕ} 0 1 = cc in omega arith)
+pub slot_is_refused : (x : Option EventPacket) → is_read x ≡ false → x ≡ None
+slot_is_refused None e = refl
+slot_is_refused (Some p) e = absurd (let z : ◌≡◌ {A = ℕ} 0 1 = cc in omega arith)

@@ -1,5 +1,6 @@
 -- A slot has one encoding: zeros for none, else the packet's fields and its four notices in order.
 -- Assumes nothing.
+use Rattle.std.specs.Prelude.{None, Option, Some}
 use mathlib.Core.Path.{◌≡◌, refl, ap, sym, subst, ◌∙◌}
 use mathlib.Core.Bool.{Bool, true, false, cond, ◌&&◌}
 use mathlib.Core.List.{List, [], ◌∷◌, ◌++◌}
@@ -13,7 +14,7 @@ use Rattle.power_policy_interface.specs.Limits.{largest}
 use Rattle.power_policy_interface.specs.declared.service.event.Event.{Event}
 use Rattle.interface_records.specs.Group.{empty_group}
 use Rattle.interface_records.specs.Row.{AllBytes}
-use Rattle.interface_display.specs.Notices.{listed, padded}
+use Rattle.interface_display.specs.Notices.{filler, listed, padded}
 use Rattle.interface_display.specs.declared.notices.Notices.{Notices}
 use Rattle.interface_display.specs.declared.packet.EventPacket.{EventPacket}
 use Rattle.interface_display.proofs.Four.{padded_rebuilt, rebuilt, at_most_four}
@@ -22,13 +23,11 @@ use Rattle.desk_follower.specs.Held.{none}
 use Rattle.bytes_groups.specs.Tagged.{tagged_at, tagged_bytes}
 use Rattle.bytes_groups.specs.declared.tagged.Tagged.{Tagged}
 use Rattle.bytes_groups.proofs.Places as places
-use Rattle.bytes_groups.proofs.Places.{gets, gets_all, Below}
+use Rattle.bytes_groups.proofs.Places.{Below}
+use Rattle.interface_records.proofs.OneRecord.{gets, gets_all}
 use Rattle.bytes_groups.proofs.Consumers.{TaggedBytes, tagged_at_lem, tagged_bytes_lem, empty_bytes}
-use Rattle.bytes_follower_image.specs.Notice.{place_from}
+use Rattle.bytes_follower_image.specs.Notice.{place_tagged, place_from}
 use Rattle.bytes_follower_image.specs.Slot.{notices_bytes, packet_bytes, slot_bytes, notices_of, notices_from, packet_of, head_fits, packet_from, zeros, slot_cases, slot_from}
-use Rattle.bytes_follower_image.specs.declared.notice.ReadNotice.{ReadNotice}
-use Rattle.bytes_follower_image.specs.declared.slot.ReadNotices.{ReadNotices}
-use Rattle.bytes_follower_image.specs.declared.slot.ReadSlot.{ReadSlot}
 use Rattle.bytes_follower_image.proofs.Notices.{and_left, and_right, read_back, notices_back, place_read, Formed, formed, notice_bytes_lem}
 
 -- the parts of a packet that fits
@@ -77,26 +76,31 @@ length_tested p false = refl
 pub slot_length : (p : EventPacket) → length (slot_bytes p) ≡ 32
 slot_length p = length_tested p (eqb p.number 0)
 
+-- the bytes of j places from place k on
+abbrev pub places_left : Notices → ℕ → ℕ → List ℕ
+places_left n k zero = []
+places_left n k (suc j) = tagged_bytes (place_tagged n.count k (get_or n.events k filler)) ++ places_left n (suc k) j
+
 -- reading what was written
 
-packet_back : (m : ℕ) (p : EventPacket) → p.number ≡ m → event_fits p ≡ true → packet_from m (packet_bytes p) ≡ ReadSlot.Read p
+packet_back : (m : ℕ) (p : EventPacket) → p.number ≡ m → event_fits p ≡ true → packet_from m (packet_bytes p) ≡ Some p
 packet_back m p e h =
     let k = parts p h in
     let c = and_left (leb p.notices.count 4) _ k.form in
     let n : leb m largest ≡ true = ap (λ (x : ℕ). leb x largest) (sym e) ∙ k.number in
-    let r : read_back p.notices ≡ ReadNotices.Read p.notices = notices_back p.notices k.form k.fits in
+    let r : read_back p.notices ≡ Some p.notices = notices_back p.notices k.form k.fits in
     let f : head_fits m p.answer p.orders p.notices.count ≡ true = rw (n, k.answer, k.orders, c) in
-    let q : packet_of m p.answer p.orders (read_back p.notices) ≡ ReadSlot.Read p =
+    let q : packet_of m p.answer p.orders (read_back p.notices) ≡ Some p =
     ap (packet_of m p.answer p.orders) r
-    ∙ ap (λ (x : ℕ). ReadSlot.Read (record { number = x; answer = p.answer; orders = p.orders; notices = p.notices })) (sym e) in
-    ap (λ (b : Bool). cond b (packet_of m p.answer p.orders (read_back p.notices)) ReadSlot.Refused) f ∙ q
+    ∙ ap (λ (x : ℕ). Some (record { number = x; answer = p.answer; orders = p.orders; notices = p.notices })) (sym e) in
+    ap (λ (b : Bool). cond b (packet_of m p.answer p.orders (read_back p.notices)) None) f ∙ q
 
-pub slot_back : (m : ℕ) (p : EventPacket) → Told m p → slot_from m (slot_bytes p) ≡ ReadSlot.Read p
+pub slot_back : (m : ℕ) (p : EventPacket) → Told m p → slot_from m (slot_bytes p) ≡ Some p
 unfolding zeros
 slot_back m p t = by t.told
   where
-    by : (p ≡ none) ⊎ ((p.number ≡ m) × (event_fits p ≡ true)) → slot_from m (slot_bytes p) ≡ ReadSlot.Read p
-    by (inl e) = subst (λ (x : EventPacket). slot_from m (slot_bytes x) ≡ ReadSlot.Read x) (sym e) refl
+    by : (p ≡ none) ⊎ ((p.number ≡ m) × (event_fits p ≡ true)) → slot_from m (slot_bytes p) ≡ Some p
+    by (inl e) = subst (λ (x : EventPacket). slot_from m (slot_bytes x) ≡ Some x) (sym e) refl
     by (inr q) =
         let k = parts p q.1 in
         let l : p.number ≡ 0 → ⊥ = λ z. omega (arith, z, k.positive) in
@@ -118,18 +122,18 @@ record Read (count : ℕ) (a b c d : Tagged) (n : Notices) : Type 0 where
   bytes : tagged_bytes a ++ (tagged_bytes b ++ (tagged_bytes c ++ tagged_bytes d)) ≡ notices_bytes n
   formed : Formed n
 
-notices_read_lem : (count : ℕ) (a b c d : Tagged) (n : Notices) (x y z w : ReadNotice) → count ≤ 4 → TaggedBytes a → TaggedBytes b → TaggedBytes c
+notices_read_lem : (count : ℕ) (a b c d : Tagged) (n : Notices) (x y z w : Option Event) → count ≤ 4 → TaggedBytes a → TaggedBytes b → TaggedBytes c
     → TaggedBytes d → place_from count 0 a ≡ x → place_from count 1 b ≡ y → place_from count 2 c ≡ z → place_from count 3 d ≡ w
-    → notices_of count x y z w ≡ ReadNotices.Read n → Read count a b c d n
-notices_read_lem count a b c d n ReadNotice.Refused y z w l ha hb hc hd p q r s e = absurd (let z : ◌≡◌ {A = ℕ} 0 1 = cc in omega arith)
-notices_read_lem count a b c d n (ReadNotice.Read u) ReadNotice.Refused z w l ha hb hc hd p q r s e =
+    → notices_of count x y z w ≡ Some n → Read count a b c d n
+notices_read_lem count a b c d n None y z w l ha hb hc hd p q r s e = absurd (let z : ◌≡◌ {A = ℕ} 0 1 = cc in omega arith)
+notices_read_lem count a b c d n (Some u) None z w l ha hb hc hd p q r s e =
     absurd (let z : ◌≡◌ {A = ℕ} 0 1 = cc in omega arith)
-notices_read_lem count a b c d n (ReadNotice.Read u) (ReadNotice.Read v) ReadNotice.Refused w l ha hb hc hd p q r s e =
+notices_read_lem count a b c d n (Some u) (Some v) None w l ha hb hc hd p q r s e =
     absurd (let z : ◌≡◌ {A = ℕ} 0 1 = cc in omega arith)
-notices_read_lem count a b c d n (ReadNotice.Read u) (ReadNotice.Read v) (ReadNotice.Read x) ReadNotice.Refused l ha hb hc hd p q r s e =
+notices_read_lem count a b c d n (Some u) (Some v) (Some x) None l ha hb hc hd p q r s e =
     absurd (let z : ◌≡◌ {A = ℕ} 0 1 = cc in omega arith)
-notices_read_lem count a b c d n (ReadNotice.Read u) (ReadNotice.Read v) (ReadNotice.Read x) (ReadNotice.Read y) l ha hb hc hd p q r s e =
-    let k : record { count = count; first = u; second = v; third = x; fourth = y } ≡ n = cc in
+notices_read_lem count a b c d n (Some u) (Some v) (Some x) (Some y) l ha hb hc hd p q r s e =
+    let k : record { count = count; events = u ∷ v ∷ x ∷ y ∷ [] } ≡ n = cc in
     let pa = place_read count 0 a u ha p in
     let pb = place_read count 1 b v hb q in
     let pc = place_read count 2 c x hc r in
@@ -176,11 +180,11 @@ packet_made m s p n l e one f r k =
     subst (λ (y : EventPacket). Slotted m s y) k
     (record { bytes = sym (gets_all s 32 e) ∙ (g ∙ v); told = record { told = inr (refl, w) } })
 
-packet_told : (m : ℕ) (s : List ℕ) (p : EventPacket) (r : ReadNotices) → notices_from (get_or s 3 0) s ≡ r → 0 < m → AllBytes s → length s ≡ 32
+packet_told : (m : ℕ) (s : List ℕ) (p : EventPacket) (r : Option Notices) → notices_from (get_or s 3 0) s ≡ r → 0 < m → AllBytes s → length s ≡ 32
     → get_or s 0 0 ≡ 1 → head_fits m (get_or s 1 0) (get_or s 2 0) (get_or s 3 0) ≡ true
-    → packet_of m (get_or s 1 0) (get_or s 2 0) r ≡ ReadSlot.Read p → Slotted m s p
-packet_told m s p ReadNotices.Refused q l h e one f k = absurd (let z : ◌≡◌ {A = ℕ} 0 1 = cc in omega arith)
-packet_told m s p (ReadNotices.Read n) q l h e one f k =
+    → packet_of m (get_or s 1 0) (get_or s 2 0) r ≡ Some p → Slotted m s p
+packet_told m s p None q l h e one f k = absurd (let z : ◌≡◌ {A = ℕ} 0 1 = cc in omega arith)
+packet_told m s p (Some n) q l h e one f k =
     let f1 = and_right (leb m largest) (leb (get_or s 1 0) 10 && (leb (get_or s 2 0) 35 && leb (get_or s 3 0) 4)) f in
     let f2 = and_right (leb (get_or s 1 0) 10) (leb (get_or s 2 0) 35 && leb (get_or s 3 0) 4) f1 in
     let c = leb-true (get_or s 3 0) 4 (and_right (leb (get_or s 2 0) 35) (leb (get_or s 3 0) 4) f2) in
@@ -193,12 +197,12 @@ packet_told m s p (ReadNotices.Read n) q l h e one f k =
 
 packet_tested : (m : ℕ) (s : List ℕ) (p : EventPacket) (b : Bool) → head_fits m (get_or s 1 0) (get_or s 2 0) (get_or s 3 0) ≡ b → 0 < m → AllBytes s
     → length s ≡ 32 → get_or s 0 0 ≡ 1
-    → cond b (packet_of m (get_or s 1 0) (get_or s 2 0) (notices_from (get_or s 3 0) s)) ReadSlot.Refused ≡ ReadSlot.Read p → Slotted m s p
+    → cond b (packet_of m (get_or s 1 0) (get_or s 2 0) (notices_from (get_or s 3 0) s)) None ≡ Some p → Slotted m s p
 packet_tested m s p true f l h e one k = packet_told m s p (notices_from (get_or s 3 0) s) refl l h e one f k
 packet_tested m s p false f l h e one k = absurd (let z : ◌≡◌ {A = ℕ} 0 1 = cc in omega arith)
 
 none_tested : (m : ℕ) (s : List ℕ) (p : EventPacket) (b : Bool) → zeros s ≡ b → length s ≡ 32
-    → cond b (ReadSlot.Read none) ReadSlot.Refused ≡ ReadSlot.Read p → Slotted m s p
+    → cond b (Some none) None ≡ Some p → Slotted m s p
 none_tested m s p true z e k =
     let j : none ≡ p = cc in
     let w : s ≡ slot_bytes none = zeros_written s z ∙ ap (λ (n : ℕ). replicate n 0) e in
@@ -206,13 +210,13 @@ none_tested m s p true z e k =
 none_tested m s p false z e k = absurd (let z : ◌≡◌ {A = ℕ} 0 1 = cc in omega arith)
 
 slot_at : (n m : ℕ) (s : List ℕ) (p : EventPacket) → get_or s 0 0 ≡ n → 0 < m → AllBytes s → length s ≡ 32
-    → get_or (slot_cases m s) n ReadSlot.Refused ≡ ReadSlot.Read p → Slotted m s p
+    → get_or (slot_cases m s) n None ≡ Some p → Slotted m s p
 slot_at zero m s p i l h e k = none_tested m s p (zeros s) refl e k
 slot_at (suc zero) m s p i l h e k =
     packet_tested m s p (head_fits m (get_or s 1 0) (get_or s 2 0) (get_or s 3 0)) refl l h e i k
 slot_at (suc (suc n)) m s p i l h e k = absurd (let z : ◌≡◌ {A = ℕ} 0 1 = cc in omega arith)
 
-pub slot_read : (m : ℕ) (s : List ℕ) (p : EventPacket) → 0 < m → AllBytes s → length s ≡ 32 → slot_from m s ≡ ReadSlot.Read p → Slotted m s p
+pub slot_read : (m : ℕ) (s : List ℕ) (p : EventPacket) → 0 < m → AllBytes s → length s ≡ 32 → slot_from m s ≡ Some p → Slotted m s p
 slot_read m s p l h e k = slot_at (get_or s 0 0) m s p refl l h e k
 
 -- the bytes of a slot are bytes
@@ -260,7 +264,7 @@ list_bytes (a ∷ b ∷ c ∷ d ∷ e ∷ l) k h = absurd (omega arith)
 packet_below : (p : EventPacket) → Parts p → Below (packet_bytes p)
 packet_below p k =
     let b : Below (notices_bytes p.notices) =
-    subst (λ (n : Notices). Below (notices_bytes n)) (padded_rebuilt p.notices k.form) (list_bytes (listed p.notices) (at_most_four p.notices) k.fits) in
+    subst (λ (n : Notices). Below (notices_bytes n)) (padded_rebuilt p.notices k.form) (list_bytes (listed p.notices) (at_most_four p.notices k.form) k.fits) in
     let c = leb-true p.notices.count 4 (and_left (leb p.notices.count 4) _ k.form) in
     places.one (omega arith)
     (places.one (omega (arith, leb-true p.answer 10 k.answer))

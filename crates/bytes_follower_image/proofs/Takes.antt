@@ -1,6 +1,7 @@
 -- A take keeps a follower that has an image one: the notices of a packet keep a display within what a picture has, and what is held was
 -- held before or is the packet taken.
 -- Assumes nothing.
+use Rattle.std.specs.Prelude.{Ok}
 use mathlib.Core.Path.{◌≡◌, refl, ap, sym, subst, ◌∙◌}
 use mathlib.Core.Bool.{Bool, true, false, cond}
 use mathlib.Core.List.{List, [], ◌∷◌}
@@ -24,7 +25,6 @@ use Rattle.interface_display.proofs.Tracked.{Tracks, insert_tracks, remove_track
 use Rattle.wire.specs.Read.{read_packet}
 use Rattle.wire.specs.WellFormed.{consumer_fits, notice_fits, notices_fit, event_fits, picture_fits}
 use Rattle.wire.specs.WellFormed as wire
-use Rattle.wire.specs.declared.packet.ReadPacket.{ReadPacket}
 use Rattle.wire.proofs.OnePacket.{write_read}
 use Rattle.desk_follower.specs.Held as held
 use Rattle.desk_follower.specs.Held.{nothing, packet_at, held_for, holds, put, placed, dropped, greatest, above}
@@ -217,6 +217,6 @@ packet_fits f p e h =
     (fits_again (taken f p).shown (taken f p).held (take_kept f p a.formed (readable p h)) g.shown g.stored)
 
 -- a packet that is read from bytes is one
-pub take_fits : (f : Follower) (b : List ℕ) (p : Packet) → image_fits f ≡ true → AllBytes b → read_packet b ≡ ReadPacket.Packet p
+pub take_fits : (f : Follower) (b : List ℕ) (p : Packet) → image_fits f ≡ true → AllBytes b → read_packet b ≡ Ok p
     → image_fits (taken f p) ≡ true
 take_fits f b p e a q = packet_fits f p e (write_read b p a q).fits

@@ -1,6 +1,7 @@
 -- The tests by bytes: they hold exactly where the bytes are read. Of a notice, of a place of a count, of the four places of a slot
 -- and of the packet.
 -- Assumes nothing.
+use Rattle.std.specs.Prelude.{None, Option, Some}
 use mathlib.Core.Path.{◌≡◌, refl, ap, sym, ◌∙◌}
 use mathlib.Core.Bool.{Bool, true, false, cond, ◌&&◌}
 use mathlib.Core.List.{List}
@@ -14,20 +15,17 @@ use Rattle.power_policy_interface.specs.Capability.{disconnect_from, psu_type_fr
 use Rattle.power_policy_interface.specs.declared.capability.PowerCapability.{PowerCapability}
 use Rattle.power_policy_interface.specs.declared.capability.ConsumerFlags.{ConsumerFlags}
 use Rattle.power_policy_interface.specs.declared.capability.ProviderFlags.{ProviderFlags}
-use Rattle.power_policy_interface.specs.declared.capability.OptionConsumerFlags.{OptionConsumerFlags}
-use Rattle.power_policy_interface.specs.declared.capability.OptionProviderFlags.{OptionProviderFlags}
+use Rattle.interface_display.specs.declared.notices.Notices.{Notices}
 use Rattle.power_policy_interface.specs.declared.service.event.Event.{Event}
 use Rattle.interface_records.specs.Group.{all_zero, capability_from, consumer_with, provider_with}
 use Rattle.interface_records.specs.declared.group.Group.{Group}
 use Rattle.interface_display.specs.Notices.{filler}
 use Rattle.bytes_groups.specs.Tagged.{tagged_at, no_group}
 use Rattle.bytes_groups.specs.declared.tagged.Tagged.{Tagged}
+use Rattle.bytes_follower_image.specs.declared.notice.Tested.{Tested}
 use Rattle.desk_follower.specs.Held.{none}
-use Rattle.bytes_follower_image.specs.Notice.{rest_zero, reason_read, consumer_read, provider_read, notice_cases, notice_from, is_zero, place_from, is_notice, four_bytes, pair_fits, kind_cases, bytes_fit}
+use Rattle.bytes_follower_image.specs.Notice.{rest_zero, reason_read, consumer_read, provider_read, notice_cases, notice_from, is_zero, place_from, is_notice, four_bytes, pair_fits, tested_at, kind_cases, bytes_fit, bytes_zero}
 use Rattle.bytes_follower_image.specs.Slot.{notices_of, are_notices, packet_of, is_read}
-use Rattle.bytes_follower_image.specs.declared.notice.ReadNotice.{ReadNotice}
-use Rattle.bytes_follower_image.specs.declared.slot.ReadNotices.{ReadNotices}
-use Rattle.bytes_follower_image.specs.declared.slot.ReadSlot.{ReadSlot}
 use Rattle.bytes_follower_image.proofs.Notices.{and_left, and_right}
 
 -- two tests agree where each holds if the other does
@@ -38,15 +36,15 @@ both false false f g = refl
 
 -- a test, and what is then read
 
-given : (b : Bool) (e : Event) → b ≡ is_notice (cond b (ReadNotice.Read e) ReadNotice.Refused)
+given : (b : Bool) (e : Event) → b ≡ is_notice (cond b (Some e) None)
 given true e = refl
 given false e = refl
 
-before : (b y : Bool) (x : ReadNotice) → y ≡ is_notice x → (b && y) ≡ is_notice (cond b x ReadNotice.Refused)
+before : (b y : Bool) (x : Option Event) → y ≡ is_notice x → (b && y) ≡ is_notice (cond b x None)
 before true y x e = e
 before false y x e = refl
 
-after : (b y : Bool) (x : ReadNotice) → y ≡ is_notice x → (y && b) ≡ is_notice (cond b x ReadNotice.Refused)
+after : (b y : Bool) (x : Option Event) → y ≡ is_notice x → (y && b) ≡ is_notice (cond b x None)
 after true true x e = e
 after true false x e = e
 after false true x e = refl
@@ -84,18 +82,22 @@ reason port (suc (suc (suc (suc (suc (suc zero)))))) = refl
 reason port (suc (suc (suc (suc (suc (suc (suc v))))))) = lt-leb (suc (suc (suc (suc (suc (suc (suc v))))))) 6 (omega arith)
 
 consumer : (port : ℕ) (c : PowerCapability) (f : ConsumerFlags) (b : Bool)
-    → b ≡ is_notice (consumer_read port (consumer_with c (cond b (OptionConsumerFlags.Some f) OptionConsumerFlags.None)))
+    → b ≡ is_notice (consumer_read port (consumer_with c (cond b (Some f) None)))
 consumer port c f true = refl
 consumer port c f false = refl
 
 provider : (port : ℕ) (c : PowerCapability) (f : ProviderFlags) (a b : Bool)
-    → cond a false b ≡ is_notice (provider_read port (provider_with c (cond a OptionProviderFlags.None (cond b (OptionProviderFlags.Some f) OptionProviderFlags.None))))
+    → cond a false b ≡ is_notice (provider_read port (provider_with c (cond a None (cond b (Some f) None))))
 provider port c f true b = refl
 provider port c f false true = refl
 provider port c f false false = refl
 
+-- the seven bytes as they are tested
+abbrev tested : Tagged → Tested
+tested t = record { kind = t.tag; port = t.group.number; v = t.group.v0; rest = rest t.group; flags = t.group.flags }
+
 kind_tested : (n : ℕ) (g : Group)
-    → get_or (kind_cases g.number g.v0 (rest g) g.flags) n false ≡ is_notice (get_or (notice_cases g) n ReadNotice.Refused)
+    → get_or (kind_cases (tested (record { tag = n; group = g }))) n false ≡ is_notice (get_or (notice_cases g) n None)
 kind_tested zero g = refl
 kind_tested (suc zero) g = rw (rest_tested g) (after (rest_zero g) (leb g.v0 6) (reason_read g.number (disconnect_from g.v0)) (reason g.number g.v0))
 kind_tested (suc (suc zero)) g =
@@ -112,15 +114,12 @@ kind_tested (suc (suc (suc (suc (suc zero))))) g =
     (Event.Unconstrained (record { unconstrained = eqb g.number 1; available = g.v0 })))
 kind_tested (suc (suc (suc (suc (suc (suc n)))))) g = refl
 
-notice_tested : (t : Tagged)
-    → bytes_fit t.tag t.group.number t.group.v0 (rest t.group) t.group.flags ≡ is_notice (notice_from t)
+notice_tested : (t : Tagged) → bytes_fit (tested t) ≡ is_notice (notice_from t)
 notice_tested t =
-    before (leb t.group.number 15)
-    (get_or (kind_cases t.group.number t.group.v0 (rest t.group) t.group.flags) t.tag false)
-    (get_or (notice_cases t.group) t.tag ReadNotice.Refused)
+    before (leb t.group.number 15) (get_or (kind_cases (tested t)) t.tag false) (get_or (notice_cases t.group) t.tag None)
     (kind_tested t.tag t.group)
 
-zeros_tested : (t : Tagged) → eqb (t.tag + t.group.number + t.group.v0 + rest t.group) 0 ≡ is_zero t
+zeros_tested : (t : Tagged) → bytes_zero (tested t) ≡ is_zero t
 zeros_tested t =
     let g = t.group in
     let s = t.tag + g.number + g.v0 + rest g in
@@ -134,19 +133,19 @@ zeros_tested t =
     let f = eqb-true five 0 (and_right (eqb g.number 0) (all_zero g) r) in
     eq-eqb s 0 (omega arith))
 
--- the seven bytes at a place of a slot, the last four as a number
-module _ (s : List ℕ) (at count k r : ℕ)
-    (e : r ≡ four_bytes (get_or s (at + 3) 0) (get_or s (at + 4) 0) (get_or s (at + 5) 0) (get_or s (at + 6) 0)) where
+-- the seven bytes at a place of a slot
+module _ (s : List ℕ) (at count k : ℕ) where
   first : get_or s (at + 0) 0 ≡ get_or s at 0
   first = ap (λ (i : ℕ). get_or s i 0) (add-zero at)
 
-  pub place_meant : ltb k count ≡ true
-      → bytes_fit (get_or s at 0) (get_or s (at + 1) 0) (get_or s (at + 2) 0) r (get_or s (at + 6) 0) ≡ is_notice (place_from count k (tagged_at s at))
-  place_meant l = rw (e, l, ← first) (notice_tested (tagged_at s at))
+  same : tested_at s at ≡ tested (tagged_at s at)
+  same = ap (λ (n : ℕ). record (tested_at s at) { kind = n }) (sym first)
 
-  pub place_past : ltb k count ≡ false
-      → eqb (get_or s at 0 + get_or s (at + 1) 0 + get_or s (at + 2) 0 + r) 0 ≡ is_notice (place_from count k (tagged_at s at))
-  place_past l = rw (e, l, ← first) (zeros_tested (tagged_at s at) ∙ given (is_zero (tagged_at s at)) filler)
+  pub place_meant : ltb k count ≡ true → bytes_fit (tested_at s at) ≡ is_notice (place_from count k (tagged_at s at))
+  place_meant l = rw l (ap bytes_fit same ∙ notice_tested (tagged_at s at))
+
+  pub place_past : ltb k count ≡ false → bytes_zero (tested_at s at) ≡ is_notice (place_from count k (tagged_at s at))
+  place_past l = rw l (ap bytes_zero same ∙ (zeros_tested (tagged_at s at) ∙ given (is_zero (tagged_at s at)) filler))
 
 -- tests one after the other: one that holds leaves the rest, one that fails decides
 
@@ -156,20 +155,20 @@ passed p q r e f = rw e f
 pub stopped : (p q : Bool) → p ≡ false → false ≡ (p && q)
 stopped p q e = rw e
 
-pub notices_tested : (count : ℕ) (a b c d : ReadNotice)
-    → (is_notice a && (is_notice b && (is_notice c && is_notice d))) ≡ are_notices (notices_of count a b c d)
-notices_tested count ReadNotice.Refused b c d = refl
-notices_tested count (ReadNotice.Read a) ReadNotice.Refused c d = refl
-notices_tested count (ReadNotice.Read a) (ReadNotice.Read b) ReadNotice.Refused d = refl
-notices_tested count (ReadNotice.Read a) (ReadNotice.Read b) (ReadNotice.Read c) ReadNotice.Refused = refl
-notices_tested count (ReadNotice.Read a) (ReadNotice.Read b) (ReadNotice.Read c) (ReadNotice.Read d) = refl
+pub notices_tested : (count : ℕ) (a b c d : Option Event)
+    → (is_notice a && (is_notice b && (is_notice c && (is_notice d && true)))) ≡ are_notices (notices_of count a b c d)
+notices_tested count None b c d = refl
+notices_tested count (Some a) None c d = refl
+notices_tested count (Some a) (Some b) None d = refl
+notices_tested count (Some a) (Some b) (Some c) None = refl
+notices_tested count (Some a) (Some b) (Some c) (Some d) = refl
 
-pub packet_tested : (h : Bool) (number answer orders : ℕ) (n : ReadNotices)
-    → (h && are_notices n) ≡ is_read (cond h (packet_of number answer orders n) ReadSlot.Refused)
+pub packet_tested : (h : Bool) (number answer orders : ℕ) (n : Option Notices)
+    → (h && are_notices n) ≡ is_read (cond h (packet_of number answer orders n) None)
 packet_tested false number answer orders n = refl
-packet_tested true number answer orders ReadNotices.Refused = refl
-packet_tested true number answer orders (ReadNotices.Read n) = refl
+packet_tested true number answer orders None = refl
+packet_tested true number answer orders (Some n) = refl
 
-pub none_tested : (b : Bool) → b ≡ is_read (cond b (ReadSlot.Read none) ReadSlot.Refused)
+pub none_tested : (b : Bool) → b ≡ is_read (cond b (Some none) None)
 none_tested true = refl
 none_tested false = refl

@@ -9,14 +9,10 @@ pub(crate) fn fits(s: &[u8], number: u32) -> bool
     requires { length s.now ≡ 224 }
     ensures { result ≡ is_held (held_from number s.now) }
 {
-    let mut event = (number as u64) + 2;
-    let mut i: usize = 0;
-    while i < 7 {
-        if !slot::fits(&s[i * 32..i * 32 + 32], event) {
+    for i in 0..7usize {
+        if !slot::fits(&s[i * 32..i * 32 + 32], number as u64 + 2 + i as u64) {
             return false;
         }
-        event += 1;
-        i += 1;
     }
     true
 }

@@ -1,5 +1,6 @@
 -- The optional consumer has one encoding, by the laws of its contract (records).
 -- Assumes nothing.
+use Rattle.std.specs.Prelude.{None, Option, Some}
 use mathlib.Core.Path.{◌≡◌, refl, ap, subst, ◌∙◌}
 use mathlib.Core.Bool.{Bool, true, false, cond}
 use mathlib.Core.List.{List}
@@ -10,8 +11,6 @@ use lib.ListN.{get_or}
 use borrow.Author.Tests.{eqb-true}
 use Rattle.power_policy_interface.specs.Capability.{bit, consumer_flags_byte, provider_flags_byte}
 use Rattle.power_policy_interface.specs.declared.capability.ConsumerPowerCapability.{ConsumerPowerCapability}
-use Rattle.power_policy_interface.specs.declared.capability.OptionConsumerPowerCapability.{OptionConsumerPowerCapability}
-use Rattle.power_policy_interface.specs.declared.capability.OptionProviderPowerCapability.{OptionProviderPowerCapability}
 use Rattle.power_policy_interface.specs.declared.capability.ProviderPowerCapability.{ProviderPowerCapability}
 use Rattle.power_policy_interface.specs.declared.capability.PowerCapability.{PowerCapability}
 use Rattle.power_policy_interface.proofs.Bits.{number_lt}
@@ -21,9 +20,7 @@ use Rattle.interface_records.specs.Row.{AllBytes}
 use Rattle.interface_records.specs.declared.group.Group.{Group}
 use Rattle.interface_records.proofs.Groups.{Bytes, zeros, consumer_back, consumer_written, provider_written}
 use Rattle.interface_display.specs.declared.AvailableConsumer.{AvailableConsumer}
-use Rattle.interface_display.specs.declared.OptionAvailableConsumer.{OptionAvailableConsumer}
 use Rattle.bytes_groups.specs.Tagged.{tagged_at, tagged_bytes, no_group, consumer_tagged, contract_of, consumer_cases, optional_from}
-use Rattle.bytes_groups.specs.declared.tagged.ReadOptionConsumer.{ReadOptionConsumer}
 use Rattle.bytes_groups.specs.declared.tagged.Tagged.{Tagged}
 use Rattle.bytes_groups.proofs.Places.{Below, none, one}
 use Rattle.bytes_groups.proofs.Quads.{Within}
@@ -89,7 +86,7 @@ provider_bytes n c h w =
 two_digits : (v0 v1 v : ℕ) → v0 < 256 → v1 < 256 → v1 ≡ v / 256 → v < 65536
 two_digits v0 v1 v a b e = omega arith
 
-pub consumer_within : (g : Group) (c : ConsumerPowerCapability) → Bytes g → consumer_from g ≡ OptionConsumerPowerCapability.Some c
+pub consumer_within : (g : Group) (c : ConsumerPowerCapability) → Bytes g → consumer_from g ≡ Some c
     → Within c.capability
 consumer_within g c h e =
     let w = consumer_written g c h e in
@@ -98,7 +95,7 @@ consumer_within g c h e =
       ma = two_digits g.c0 g.c1 c.capability.current_ma h.c0 h.c1 (ap (λ (k : Group). k.c1) w);
     }
 
-pub provider_within : (g : Group) (c : ProviderPowerCapability) → Bytes g → provider_from g ≡ OptionProviderPowerCapability.Some c
+pub provider_within : (g : Group) (c : ProviderPowerCapability) → Bytes g → provider_from g ≡ Some c
     → Within c.capability
 provider_within g c h e =
     let w = provider_written g c h e in
@@ -116,50 +113,50 @@ no_group_lem g e =
 
 -- the optional consumer
 
-pub optional_back : (c : OptionAvailableConsumer) → optional_from (consumer_tagged c) ≡ ReadOptionConsumer.Read c
-optional_back OptionAvailableConsumer.None = refl
-optional_back (OptionAvailableConsumer.Some c) = ap (contract_of c.psu) (consumer_back c.psu c.consumer_power_capability)
+pub optional_back : (c : Option AvailableConsumer) → optional_from (consumer_tagged c) ≡ Some c
+optional_back None = refl
+optional_back (Some c) = ap (contract_of c.psu) (consumer_back c.psu c.consumer_power_capability)
 
 -- the number of a consumer's port and its figures are within their types
-abbrev pub ConsumerWithin : OptionAvailableConsumer → Type 0
-ConsumerWithin OptionAvailableConsumer.None = Unit {0}
-ConsumerWithin (OptionAvailableConsumer.Some c) = (c.psu < 256) × Within c.consumer_power_capability.capability
+abbrev pub ConsumerWithin : Option AvailableConsumer → Type 0
+ConsumerWithin None = Unit {0}
+ConsumerWithin (Some c) = (c.psu < 256) × Within c.consumer_power_capability.capability
 
-pub optional_bytes : (c : OptionAvailableConsumer) → ConsumerWithin c → TaggedBytes (consumer_tagged c)
-optional_bytes OptionAvailableConsumer.None h = record { tag = omega arith; group = empty_bytes 0 (omega arith) }
-optional_bytes (OptionAvailableConsumer.Some c) h =
+pub optional_bytes : (c : Option AvailableConsumer) → ConsumerWithin c → TaggedBytes (consumer_tagged c)
+optional_bytes None h = record { tag = omega arith; group = empty_bytes 0 (omega arith) }
+optional_bytes (Some c) h =
     record { tag = omega arith; group = consumer_bytes_lem c.psu c.consumer_power_capability h.0 h.1 }
 
 -- what was read was written so, and is within its types
-pub record Optional (t : Tagged) (c : OptionAvailableConsumer) : Type 0 where
+pub record Optional (t : Tagged) (c : Option AvailableConsumer) : Type 0 where
   pub written : t ≡ consumer_tagged c
   pub typed : ConsumerWithin c
 
-no_consumer_lem : (g : Group) (c : OptionAvailableConsumer) (b : Bool) → no_group g ≡ b
-    → cond b (ReadOptionConsumer.Read OptionAvailableConsumer.None) ReadOptionConsumer.Refused ≡ ReadOptionConsumer.Read c
+no_consumer_lem : (g : Group) (c : Option AvailableConsumer) (b : Bool) → no_group g ≡ b
+    → cond b (Some None) None ≡ Some c
     → Optional (record { tag = 0; group = g }) c
-no_consumer_lem g OptionAvailableConsumer.None true p q = record { written = ap (λ (k : Group). record { tag = 0; group = k }) (no_group_lem g p); typed = tt }
-no_consumer_lem g (OptionAvailableConsumer.Some c) true p q = absurd (let z : ◌≡◌ {A = ℕ} 0 1 = cc in omega arith)
-no_consumer_lem g c false p q = absurd (let z : ◌≡◌ {A = ℕ} 0 1 = cc in omega arith)
+no_consumer_lem g None true p q = record { written = ap (λ (k : Group). record { tag = 0; group = k }) (no_group_lem g p); typed = tt }
+no_consumer_lem g (Some c) true p q = absurd (cc)
+no_consumer_lem g c false p q = absurd (cc)
 
-a_consumer : (g : Group) (c : OptionAvailableConsumer) (o : OptionConsumerPowerCapability) → consumer_from g ≡ o → GroupBytes g
-    → contract_of g.number o ≡ ReadOptionConsumer.Read c → Optional (record { tag = 1; group = g }) c
-a_consumer g c OptionConsumerPowerCapability.None p h q = absurd (let z : ◌≡◌ {A = ℕ} 0 1 = cc in omega arith)
-a_consumer g OptionAvailableConsumer.None (OptionConsumerPowerCapability.Some d) p h q =
-    absurd (let z : ◌≡◌ {A = ℕ} 0 1 = cc in omega arith)
-a_consumer g (OptionAvailableConsumer.Some c) (OptionConsumerPowerCapability.Some d) p h q =
+a_consumer : (g : Group) (c : Option AvailableConsumer) (o : Option ConsumerPowerCapability) → consumer_from g ≡ o → GroupBytes g
+    → contract_of g.number o ≡ Some c → Optional (record { tag = 1; group = g }) c
+a_consumer g c None p h q = absurd (cc)
+a_consumer g None (Some d) p h q =
+    absurd (cc)
+a_consumer g (Some c) (Some d) p h q =
     let k : record { psu = g.number; consumer_power_capability = d } ≡ c = cc in
     record {
       written = ap (λ (j : Group). record { tag = 1; group = j }) (consumer_written g d h.digit p)
-          ∙ ap (λ (a : AvailableConsumer). consumer_tagged (OptionAvailableConsumer.Some a)) k;
-      typed = subst (λ (a : AvailableConsumer). ConsumerWithin (OptionAvailableConsumer.Some a)) k (h.number, consumer_within g d h.digit p);
+          ∙ ap (λ (a : AvailableConsumer). consumer_tagged (Some a)) k;
+      typed = subst (λ (a : AvailableConsumer). ConsumerWithin (Some a)) k (h.number, consumer_within g d h.digit p);
     }
 
-optional_at : (n : ℕ) (g : Group) (c : OptionAvailableConsumer) → GroupBytes g
-    → get_or (consumer_cases g) n ReadOptionConsumer.Refused ≡ ReadOptionConsumer.Read c → Optional (record { tag = n; group = g }) c
+optional_at : (n : ℕ) (g : Group) (c : Option AvailableConsumer) → GroupBytes g
+    → get_or (consumer_cases g) n None ≡ Some c → Optional (record { tag = n; group = g }) c
 optional_at zero g c h q = no_consumer_lem g c (no_group g) refl q
 optional_at (suc zero) g c h q = a_consumer g c (consumer_from g) refl h q
-optional_at (suc (suc n)) g c h q = absurd (let z : ◌≡◌ {A = ℕ} 0 1 = cc in omega arith)
+optional_at (suc (suc n)) g c h q = absurd (cc)
 
-pub optional_read : (t : Tagged) (c : OptionAvailableConsumer) → TaggedBytes t → optional_from t ≡ ReadOptionConsumer.Read c → Optional t c
+pub optional_read : (t : Tagged) (c : Option AvailableConsumer) → TaggedBytes t → optional_from t ≡ Some c → Optional t c
 optional_read t c h q = optional_at t.tag t.group c h.group q

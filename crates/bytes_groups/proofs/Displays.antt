@@ -1,5 +1,6 @@
 -- The display has one encoding, since its consumer has, a truth value is 0 or 1, and the tracked ports are two digits.
 -- Assumes nothing.
+use Rattle.std.specs.Prelude.{None, Option, Some}
 use mathlib.Core.Path.{◌≡◌, refl, subst}
 use mathlib.Core.Bool.{Bool, true, false, cond}
 use mathlib.Core.List.{List}
@@ -10,12 +11,10 @@ use borrow.Author.Tests.{leb-true}
 use Rattle.power_policy_interface.specs.Capability.{bit}
 use Rattle.interface_records.specs.Row.{AllBytes}
 use Rattle.interface_display.specs.declared.Display.{Display}
-use Rattle.interface_display.specs.declared.OptionAvailableConsumer.{OptionAvailableConsumer}
+use Rattle.interface_display.specs.declared.AvailableConsumer.{AvailableConsumer}
 use Rattle.bytes_groups.specs.Tagged.{optional_from}
 use Rattle.bytes_groups.specs.Shown.{shown_at, shown_bytes, display_shown, display_with, display_from}
-use Rattle.bytes_groups.specs.declared.shown.ReadDisplay.{ReadDisplay}
 use Rattle.bytes_groups.specs.declared.shown.Shown.{Shown}
-use Rattle.bytes_groups.specs.declared.tagged.ReadOptionConsumer.{ReadOptionConsumer}
 use Rattle.bytes_groups.proofs.Places.{Below, none, one, both}
 use Rattle.bytes_groups.proofs.Consumers.{TaggedBytes, ConsumerWithin, Optional, tagged_at_lem, tagged_bytes_lem, optional_back, optional_bytes, optional_read}
 
@@ -66,7 +65,7 @@ bit_written (suc (suc n)) h = absurd (omega arith)
 
 -- reading what was written
 
-pub display_back : (d : Display) → display_from (display_shown d) ≡ ReadDisplay.Read d
+pub display_back : (d : Display) → display_from (display_shown d) ≡ Some d
 display_back d =
     let m : d.providers.mask % 256 + d.providers.mask / 256 * 256 ≡ d.providers.mask = omega arith in
     rw (optional_back d.consumer, bit_tested d.unconstrained.unconstrained, bit_back d.unconstrained.unconstrained, m)
@@ -85,7 +84,7 @@ pub record Displayed (g : Shown) (d : Display) : Type 0 where
   pub written : g ≡ display_shown d
   pub typed : DisplayWithin d
 
-abbrev read : Shown → OptionAvailableConsumer → Display
+abbrev read : Shown → Option AvailableConsumer → Display
 read g c =
     record {
       consumer = c;
@@ -93,7 +92,7 @@ read g c =
       providers = record { mask = g.low + g.high * 256 };
     }
 
-parts : (g : Shown) (c : OptionAvailableConsumer) → ShownBytes g → Optional g.consumer c → leb g.unconstrained 1 ≡ true
+parts : (g : Shown) (c : Option AvailableConsumer) → ShownBytes g → Optional g.consumer c → leb g.unconstrained 1 ≡ true
     → Displayed g (read g c)
 parts g c h o e =
     let w = o.written in
@@ -105,18 +104,18 @@ parts g c h o e =
       typed = record { consumer = o.typed; available = h.available; mask = omega (arith, h.low, h.high) };
     }
 
-tested : (g : Shown) (d : Display) (c : OptionAvailableConsumer) (b : Bool) → leb g.unconstrained 1 ≡ b → ShownBytes g
-    → Optional g.consumer c → cond b (ReadDisplay.Read (read g c)) ReadDisplay.Refused ≡ ReadDisplay.Read d → Displayed g d
+tested : (g : Shown) (d : Display) (c : Option AvailableConsumer) (b : Bool) → leb g.unconstrained 1 ≡ b → ShownBytes g
+    → Optional g.consumer c → cond b (Some (read g c)) None ≡ Some d → Displayed g d
 tested g d c true p h o q =
     let k : read g c ≡ d = cc in
     subst (λ (x : Display). Displayed g x) k (parts g c h o p)
-tested g d c false p h o q = absurd (let z : ◌≡◌ {A = ℕ} 0 1 = cc in omega arith)
+tested g d c false p h o q = absurd (cc)
 
-with_consumer_lem : (g : Shown) (d : Display) (r : ReadOptionConsumer) → optional_from g.consumer ≡ r → ShownBytes g
-    → display_with r g ≡ ReadDisplay.Read d → Displayed g d
-with_consumer_lem g d ReadOptionConsumer.Refused p h q = absurd (let z : ◌≡◌ {A = ℕ} 0 1 = cc in omega arith)
-with_consumer_lem g d (ReadOptionConsumer.Read c) p h q =
+with_consumer_lem : (g : Shown) (d : Display) (r : Option (Option AvailableConsumer)) → optional_from g.consumer ≡ r → ShownBytes g
+    → display_with r g ≡ Some d → Displayed g d
+with_consumer_lem g d None p h q = absurd (cc)
+with_consumer_lem g d (Some c) p h q =
     tested g d c (leb g.unconstrained 1) refl h (optional_read g.consumer c h.consumer p) q
 
-pub display_read : (g : Shown) (d : Display) → ShownBytes g → display_from g ≡ ReadDisplay.Read d → Displayed g d
+pub display_read : (g : Shown) (d : Display) → ShownBytes g → display_from g ≡ Some d → Displayed g d
 display_read g d h q = with_consumer_lem g d (optional_from g.consumer) refl h q

@@ -1,32 +1,16 @@
--- Lists of bytes at fixed places: a list is its elements in order, parts stored one after the other are stored as one, and a list
--- of bytes below 256 is made of such.
+-- Lists of bytes at fixed places: parts stored one after the other are stored as one, and a list of bytes below 256 is made of such.
 -- Assumes nothing.
-use mathlib.Core.Path.{◌≡◌, refl, ap, ◌∙◌}
+use mathlib.Core.Path.{◌≡◌, refl, ap, sym, ◌∙◌}
 use mathlib.Core.Bool.{Bool, true, false}
-use mathlib.Core.List.{List, [], ◌∷◌, ◌++◌, append-nil}
+use mathlib.Core.List.{List, [], ◌∷◌, ◌++◌, append_assoc, append-nil}
 use Prim.Native.Nat.{ℕ, zero, suc, ◌+◌, ◌-◌, ◌≤◌, ◌<◌, min}
 use native.Mathlib.Nat.{suc_inj, add-zero}
 use native.Mathlib.Omega.{arith}
 use lib.Dec.{leb}
-use lib.ListN.{length, get_or, set, drop, drop_of_length-le}
-use lib.Seq.{sets, sets-eq, set_out, drop-length}
+use lib.ListN.{length, get_or, set, take, drop, drop_of_length-le, take-append-drop}
+use lib.Seq.{sets, sets-eq, set_out, drop-length, length-take-le, length-sets, drop-drop}
 use borrow.Author.Tests.{leb-true, leb-false}
 use Rattle.interface_records.specs.Row.{AllBytes}
-
--- n elements from place i on
-abbrev pub gets : List ℕ → ℕ → ℕ → List ℕ
-gets s i zero = []
-gets s i (suc n) = get_or s i 0 ∷ gets s (suc i) n
-
-gets_cons : (x : ℕ) (s : List ℕ) (i n : ℕ) → gets (x ∷ s) (suc i) n ≡ gets s i n
-gets_cons x s i zero = refl
-gets_cons x s i (suc n) = ap (λ (l : List ℕ). get_or s i 0 ∷ l) (gets_cons x s (suc i) n)
-
-pub gets_all : (s : List ℕ) (n : ℕ) → length s ≡ n → gets s 0 n ≡ s
-gets_all [] zero e = refl
-gets_all [] (suc n) e = absurd (omega arith)
-gets_all (x ∷ s) zero e = absurd (omega arith)
-gets_all (x ∷ s) (suc n) e = ap (λ (l : List ℕ). x ∷ l) (gets_cons x s 0 n ∙ gets_all s n (suc_inj e))
 
 -- parts stored one after the other
 
@@ -67,6 +51,20 @@ sets_rest s l at n h = by (leb (length s) n) refl
     by false e =
         let k : n < length s = leb-false (length s) n e in
         sets_past (drop n s) l (at + n) (omega arith)
+
+-- a part stored over a range, as many of its bytes as there are places
+pub sets_range : (s l : List ℕ) (at n : ℕ) → n ≡ min (length s) (length l - at) → at + n ≤ length l
+    → take at l ++ (take n s ++ drop n (drop at l)) ≡ sets l at s
+sets_range s l at n e h =
+    let k : length (take n s) ≡ n = length-take-le n s (omega arith) in
+    let ht : at + length (take n s) ≤ length l = omega arith in
+    let one : sets l at (take n s) ≡ take at l ++ (take n s ++ drop n (drop at l)) =
+    rw (drop-drop n at l, ← append_assoc (take at l) (take n s) (drop (at + n) l)) (rw k at (sets-eq (take n s) l at ht)) in
+    let two : sets (sets l at (take n s)) (at + n) (drop n s) ≡ sets l at (take n s ++ drop n s) =
+    rw k at (sets_append (take n s) (drop n s) l at) in
+    let three : sets (sets l at (take n s)) (at + n) (drop n s) ≡ sets l at (take n s) =
+    sets_rest s (sets l at (take n s)) at n (rw length-sets (omega arith)) in
+    sym one ∙ (sym three ∙ (two ∙ ap (sets l at) (take-append-drop n s)))
 
 -- bytes below 256
 

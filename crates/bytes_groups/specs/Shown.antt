@@ -1,11 +1,10 @@
 -- The display as 11 bytes: optional consumer, unconstrained, available, and the tracked ports with bit p for port p, low byte first.
-use Rattle.std.specs.Prelude.{ℕ, ◌+◌, ◌*◌, ◌/◌, ◌%◌, cond, List, [], ◌∷◌, ◌++◌, eqb, leb, get_or}
+use Rattle.std.specs.Prelude.{ℕ, ◌+◌, ◌*◌, ◌/◌, ◌%◌, cond, List, [], ◌∷◌, ◌++◌, eqb, leb, get_or, None, Option, Some}
 use Rattle.power_policy_interface.specs.Capability.{bit}
 use Rattle.interface_display.specs.declared.Display.{Display}
 use Rattle.bytes_groups.specs.Tagged.{tagged_at, tagged_bytes, consumer_tagged, optional_from}
-use Rattle.bytes_groups.specs.declared.shown.ReadDisplay.{ReadDisplay}
+use Rattle.interface_display.specs.declared.AvailableConsumer.{AvailableConsumer}
 use Rattle.bytes_groups.specs.declared.shown.Shown.{Shown}
-use Rattle.bytes_groups.specs.declared.tagged.ReadOptionConsumer.{ReadOptionConsumer}
 
 -- the eleven bytes from a position on
 abbrev pub shown_at : List ℕ → ℕ → Shown
@@ -38,17 +37,17 @@ display_bytes d = shown_bytes (display_shown d)
 
 -- reading
 
-abbrev pub display_with : ReadOptionConsumer → Shown → ReadDisplay
-display_with ReadOptionConsumer.Refused g = ReadDisplay.Refused
-display_with (ReadOptionConsumer.Read c) g =
+abbrev pub display_with : Option (Option AvailableConsumer) → Shown → Option Display
+display_with None g = None
+display_with (Some c) g =
     cond (leb g.unconstrained 1)
-    (ReadDisplay.Read (record {
+    (Some (record {
       consumer = c;
       unconstrained = record { unconstrained = eqb g.unconstrained 1; available = g.available };
       providers = record { mask = g.low + g.high * 256 };
     }))
-    ReadDisplay.Refused
+    None
 
 -- an unconstrained byte above 1 is refused
-abbrev pub display_from : Shown → ReadDisplay
+abbrev pub display_from : Shown → Option Display
 display_from g = display_with (optional_from g.consumer) g

@@ -1,11 +1,10 @@
 -- A byte and a group of six, and the optional consumer: 0 and six zeros, or 1 and a contract.
-use Rattle.std.specs.Prelude.{ℕ, ◌+◌, Bool, cond, ◌&&◌, List, [], ◌∷◌, eqb, get_or}
-use Rattle.power_policy_interface.specs.declared.capability.OptionConsumerPowerCapability.{OptionConsumerPowerCapability}
+use Rattle.std.specs.Prelude.{ℕ, ◌+◌, Bool, cond, ◌&&◌, List, [], ◌∷◌, eqb, get_or, None, Option, Some}
+use Rattle.interface_display.specs.declared.AvailableConsumer.{AvailableConsumer}
+use Rattle.power_policy_interface.specs.declared.capability.ConsumerPowerCapability.{ConsumerPowerCapability}
 use Rattle.interface_records.specs.Group.{group_bytes, empty_group, consumer_group, consumer_from, all_zero}
 use Rattle.interface_records.specs.declared.group.Group.{Group}
-use Rattle.interface_display.specs.declared.OptionAvailableConsumer.{OptionAvailableConsumer}
 use Rattle.bytes_groups.specs.declared.tagged.Tagged.{Tagged}
-use Rattle.bytes_groups.specs.declared.tagged.ReadOptionConsumer.{ReadOptionConsumer}
 
 -- the seven bytes from a position on
 abbrev pub tagged_at : List ℕ → ℕ → Tagged
@@ -31,26 +30,26 @@ no_group g = eqb g.number 0 && all_zero g
 
 -- writing
 
-abbrev pub consumer_tagged : OptionAvailableConsumer → Tagged
-consumer_tagged OptionAvailableConsumer.None = record { tag = 0; group = empty_group 0 }
-consumer_tagged (OptionAvailableConsumer.Some c) = record { tag = 1; group = consumer_group c.psu c.consumer_power_capability }
+abbrev pub consumer_tagged : Option AvailableConsumer → Tagged
+consumer_tagged None = record { tag = 0; group = empty_group 0 }
+consumer_tagged (Some c) = record { tag = 1; group = consumer_group c.psu c.consumer_power_capability }
 
-abbrev pub consumer_bytes : OptionAvailableConsumer → List ℕ
+abbrev pub consumer_bytes : Option AvailableConsumer → List ℕ
 consumer_bytes c = tagged_bytes (consumer_tagged c)
 
 -- reading
 
-abbrev pub contract_of : ℕ → OptionConsumerPowerCapability → ReadOptionConsumer
-contract_of port OptionConsumerPowerCapability.None = ReadOptionConsumer.Refused
-contract_of port (OptionConsumerPowerCapability.Some c) =
-    ReadOptionConsumer.Read (OptionAvailableConsumer.Some (record { psu = port; consumer_power_capability = c }))
+abbrev pub contract_of : ℕ → Option ConsumerPowerCapability → Option (Option AvailableConsumer)
+contract_of port None = None
+contract_of port (Some c) =
+    Some (Some (record { psu = port; consumer_power_capability = c }))
 
-abbrev pub consumer_cases : Group → List ReadOptionConsumer
+abbrev pub consumer_cases : Group → List (Option (Option AvailableConsumer))
 consumer_cases g =
-    cond (no_group g) (ReadOptionConsumer.Read OptionAvailableConsumer.None) ReadOptionConsumer.Refused
+    cond (no_group g) (Some None) None
     ∷ contract_of g.number (consumer_from g)
     ∷ []
 
 -- a presence above 1 is refused
-abbrev pub optional_from : Tagged → ReadOptionConsumer
-optional_from t = get_or (consumer_cases t.group) t.tag ReadOptionConsumer.Refused
+abbrev pub optional_from : Tagged → Option (Option AvailableConsumer)
+optional_from t = get_or (consumer_cases t.group) t.tag None

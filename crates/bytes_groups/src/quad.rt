@@ -3,6 +3,7 @@ ghost use Rattle.std.specs.Prelude.{◌≡◌};
 ghost use Rattle.bytes_groups.specs.Quad.{quad_at, quad_bytes, number_quad, number_from, power_quad, power_from};
 
 use crate::place::byte;
+use interface_records::group::{power_bytes, power_of};
 use power_policy_interface::capability::PowerCapability;
 
 // Four bytes by value.
@@ -15,7 +16,7 @@ pub struct Quad {
 }
 
 impl Quad {
-    // The four bytes from a place on; zeros stand for bytes past the end.
+    // The four bytes from a place on. A place and no part of the slice, which may be short: zeros stand past its end.
     pub fn at(s: &[u8], at: usize) -> Quad
         ensures { result ≡ quad_at s.now at }
     {
@@ -27,49 +28,44 @@ impl Quad {
         }
     }
 
+    // A method, as the library's to_le_bytes: with a From each call would name the array's length.
     pub fn bytes(self) -> [u8; 4]
         ensures { result ≡ quad_bytes self }
     {
         [self.b0, self.b1, self.b2, self.b3]
     }
+}
 
-    pub fn of_number(n: u32) -> Quad
-        ensures { result ≡ number_quad n }
-    {
-        Quad {
-            b0: (n % 256) as u8,
-            b1: (n / 256 % 256) as u8,
-            b2: (n / 65536 % 256) as u8,
-            b3: (n / 16777216) as u8,
-        }
+impl From<u32> for Quad {
+    ghost from_gives = { λ n q. q ≡ number_quad n };
+
+    fn from(n: u32) -> Quad {
+        let [b0, b1, b2, b3] = n.to_le_bytes();
+        Quad { b0, b1, b2, b3 }
     }
+}
 
-    pub fn number(self) -> u32
-        ensures { result ≡ number_from self }
-    {
-        (self.b0 as u32)
-            + (self.b1 as u32) * 256
-            + (self.b2 as u32) * 65536
-            + (self.b3 as u32) * 16777216
+impl From<Quad> for u32 {
+    ghost from_gives = { λ q n. n ≡ number_from q };
+
+    fn from(q: Quad) -> u32 {
+        u32::from_le_bytes(q.bytes())
     }
+}
 
-    pub fn of_power(c: PowerCapability) -> Quad
-        ensures { result ≡ power_quad c }
-    {
-        Quad {
-            b0: (c.voltage_mv % 256) as u8,
-            b1: (c.voltage_mv / 256) as u8,
-            b2: (c.current_ma % 256) as u8,
-            b3: (c.current_ma / 256) as u8,
-        }
+impl From<PowerCapability> for Quad {
+    ghost from_gives = { λ c q. q ≡ power_quad c };
+
+    fn from(c: PowerCapability) -> Quad {
+        let [b0, b1, b2, b3] = power_bytes(c);
+        Quad { b0, b1, b2, b3 }
     }
+}
 
-    pub fn power(self) -> PowerCapability
-        ensures { result ≡ power_from self }
-    {
-        PowerCapability {
-            voltage_mv: (self.b0 as u16) + (self.b1 as u16) * 256,
-            current_ma: (self.b2 as u16) + (self.b3 as u16) * 256,
-        }
+impl From<Quad> for PowerCapability {
+    ghost from_gives = { λ q c. c ≡ power_from q };
+
+    fn from(q: Quad) -> PowerCapability {
+        power_of(q.bytes())
     }
 }

@@ -4,7 +4,7 @@ ghost use Rattle.power_policy_interface.specs.Capability.{bit};
 ghost use Rattle.bytes_groups.specs.Shown.{shown_at, shown_bytes, display_shown, display_from};
 
 use crate::place::byte;
-use crate::tagged::{ReadOptionConsumer, Tagged};
+use crate::tagged::Tagged;
 use interface_display::Display;
 use interface_display::providers::Providers;
 use power_policy_interface::service::UnconstrainedState;
@@ -19,31 +19,20 @@ pub struct Shown {
     pub high: u8,
 }
 
-// What reading a display finds.
-#[derive(Clone, Copy)]
-pub enum ReadDisplay {
-    Refused,
-    Read(Display),
-}
-
 // 0 or 1.
 pub fn bit(u: bool) -> u8
     ensures { result ≡ bit u }
 {
-    if u {
-        return 1;
-    }
-    0
+    u as u8
 }
 
 impl Shown {
-    // The eleven bytes from a place on; zeros stand for bytes past the end.
+    // The eleven bytes from a place on. A place and no part of the slice, which may be short: zeros stand past its end.
     pub fn at(s: &[u8], at: usize) -> Shown
         ensures { result ≡ shown_at s.now at }
     {
-        let consumer = Tagged::at(s, at);
         Shown {
-            consumer,
+            consumer: Tagged::at(s, at),
             unconstrained: byte(s, at, 7),
             available: byte(s, at, 8),
             low: byte(s, at, 9),
@@ -51,6 +40,7 @@ impl Shown {
         }
     }
 
+    // A method, as the library's to_le_bytes: with a From each call would name the array's length.
     pub fn bytes(self) -> [u8; 11]
         ensures { result ≡ shown_bytes self }
     {
@@ -71,44 +61,40 @@ impl Shown {
         ]
     }
 
-    pub fn of_display(d: Display) -> Shown
-        ensures { result ≡ display_shown d }
-    {
-        let c = d.consumer;
-        let u = d.unconstrained;
-        let p = d.providers;
-        let consumer = Tagged::of_consumer(c);
-        Shown {
-            consumer,
-            unconstrained: bit(u.unconstrained),
-            available: u.available,
-            low: (p.mask % 256) as u8,
-            high: (p.mask / 256) as u8,
-        }
-    }
-
     // The display; refused for bytes that none is written as.
-    pub fn display(self) -> ReadDisplay
+    pub fn display(self) -> Option<Display>
         ensures { result ≡ display_from self }
     {
-        let t = self.consumer;
-        let ReadOptionConsumer::Read(consumer) = t.consumer() else {
-            return ReadDisplay::Refused;
-        };
+        let consumer = self.consumer.consumer()?;
         if 1 < self.unconstrained {
-            return ReadDisplay::Refused;
+            return None;
         }
         let unconstrained = UnconstrainedState {
             unconstrained: self.unconstrained == 1,
             available: self.available,
         };
         let providers = Providers {
-            mask: (self.low as u16) + (self.high as u16) * 256,
+            mask: u16::from_le_bytes([self.low, self.high]),
         };
-        ReadDisplay::Read(Display {
+        Some(Display {
             consumer,
             unconstrained,
             providers,
         })
+    }
+}
+
+impl From<Display> for Shown {
+    ghost from_gives = { λ d g. g ≡ display_shown d };
+
+    fn from(d: Display) -> Shown {
+        let [low, high] = d.providers.mask.to_le_bytes();
+        Shown {
+            consumer: Tagged::from(d.consumer),
+            unconstrained: bit(d.unconstrained.unconstrained),
+            available: d.unconstrained.available,
+            low,
+            high,
+        }
     }
 }

@@ -3,9 +3,8 @@ ghost use Rattle.std.specs.Prelude.{◌≡◌};
 ghost use Rattle.bytes_groups.specs.Tagged.{tagged_at, tagged_bytes, no_group, consumer_tagged, optional_from};
 
 use crate::place::byte;
-use interface_display::{AvailableConsumer, OptionAvailableConsumer};
+use interface_display::AvailableConsumer;
 use interface_records::group::Group;
-use power_policy_interface::capability::OptionConsumerPowerCapability;
 
 // Seven bytes by value: a kind or a presence, and a contract.
 #[derive(Clone, Copy)]
@@ -14,25 +13,15 @@ pub struct Tagged {
     pub group: Group,
 }
 
-// What reading seven bytes as an optional consumer finds.
-#[derive(Clone, Copy)]
-pub enum ReadOptionConsumer {
-    Refused,
-    Read(OptionAvailableConsumer),
-}
-
 // Whether a group is six zeros.
 pub fn is_empty(g: Group) -> bool
     ensures { result ≡ no_group g }
 {
-    if g.number != 0 {
-        return false;
-    }
-    g.is_zero()
+    g.number == 0 && g.is_zero()
 }
 
 impl Tagged {
-    // The seven bytes from a place on; zeros stand for bytes past the end.
+    // The seven bytes from a place on. A place and no part of the slice, which may be short: zeros stand past its end.
     pub fn at(s: &[u8], at: usize) -> Tagged
         ensures { result ≡ tagged_at s.now at }
     {
@@ -48,6 +37,7 @@ impl Tagged {
         Tagged { tag, group }
     }
 
+    // A method, as the library's to_le_bytes: with a From each call would name the array's length.
     pub fn bytes(self) -> [u8; 7]
         ensures { result ≡ tagged_bytes self }
     {
@@ -55,45 +45,35 @@ impl Tagged {
         [self.tag, g.number, g.v0, g.v1, g.c0, g.c1, g.flags]
     }
 
-    pub fn of_consumer(c: OptionAvailableConsumer) -> Tagged
-        ensures { result ≡ consumer_tagged c }
-    {
-        match c {
-            OptionAvailableConsumer::None => {
-                let group = Group::empty(0);
-                Tagged { tag: 0, group }
-            }
-            OptionAvailableConsumer::Some(a) => {
-                let capability = a.consumer_power_capability;
-                let group = Group::of_consumer(a.psu, capability);
-                Tagged { tag: 1, group }
-            }
-        }
-    }
-
     // The optional consumer; refused for bytes that none is written as.
-    pub fn consumer(self) -> ReadOptionConsumer
+    pub fn consumer(self) -> Option<Option<AvailableConsumer>>
         ensures { result ≡ optional_from self }
     {
-        let tag = self.tag;
         let group = self.group;
-        match tag {
-            0 => {
-                if is_empty(group) {
-                    ReadOptionConsumer::Read(OptionAvailableConsumer::None)
-                } else {
-                    ReadOptionConsumer::Refused
-                }
-            }
-            1 => match group.consumer() {
-                OptionConsumerPowerCapability::None => ReadOptionConsumer::Refused,
-                OptionConsumerPowerCapability::Some(consumer_power_capability) =>
-                    ReadOptionConsumer::Read(OptionAvailableConsumer::Some(AvailableConsumer {
-                        psu: group.number,
-                        consumer_power_capability,
-                    })),
+        match self.tag {
+            0 if is_empty(group) => Some(None),
+            1 => Some(Some(AvailableConsumer {
+                psu: group.number,
+                consumer_power_capability: group.flagged()?,
+            })),
+            _ => None,
+        }
+    }
+}
+
+impl From<Option<AvailableConsumer>> for Tagged {
+    ghost from_gives = { λ c t. t ≡ consumer_tagged c };
+
+    fn from(c: Option<AvailableConsumer>) -> Tagged {
+        match c {
+            None => Tagged {
+                tag: 0,
+                group: Group::empty(0),
             },
-            _ => ReadOptionConsumer::Refused,
+            Some(a) => Tagged {
+                tag: 1,
+                group: Group::of(a.psu, a.consumer_power_capability),
+            },
         }
     }
 }

@@ -2,83 +2,62 @@
 // as it was.
 #![tactic(auto)]
 
-ghost use Rattle.std.specs.Prelude.{◌≡◌};
-ghost use Rattle.machine_service.specs.Service.{open_of, answer_of};
-ghost use Rattle.abstract_calls.specs.Lent.{packet_call, picture_call};
+ghost use Rattle.std.specs.Prelude.{◌≡◌, ok_or};
+ghost use Rattle.power_policy_interface.specs.Refusal.{numbered};
+ghost use Rattle.power_policy_interface.specs.declared.refusal.Refusal.{Refusal};
+ghost use Rattle.machine_service.specs.Service.{accepted};
+ghost use Rattle.abstract_calls.specs.Lent.{rows_in, written_as};
+ghost use Rattle.machine_state.specs.Phase.{order_of};
 ghost use Rattle.bytes_service_image.specs.Image.{service_from};
-ghost use Rattle.bytes_calls.specs.Calls.{started_call, start_call, stepped_call, with_rows, on_service, open_call, answer_call, stand_number, order_call, write_packet_call, write_picture_call};
+ghost use Rattle.bytes_calls.specs.Calls.{number_of, start_call, stepped_call, open_call, answer_call, stand_number, order_call, write_packet_call, write_picture_call};
 
-use abstract_calls::Rows;
-use abstract_policy::order::OptionOrder;
-use abstract_policy::outcome::{SentPacket, SentPicture, Step};
+use abstract_policy::state::{Records, Registration};
 use bytes_calls::numbers;
 use bytes_calls::rows::read_rows;
-use bytes_service_image::ReadService;
-use machine_service::{Service, Started, Stepped, answer_in, send};
-use machine_state::phase::Phase;
+use machine_service::{Service, Stepped, answer_in, send};
 use power_policy_interface::limits::SERVICE_IMAGE;
-use power_policy_service::config::OptionConfig;
+use power_policy_interface::refusal::Refusal;
+use power_policy_service::config::Config;
 
-// Writes the image of the service after a call that is not turned back.
+// The service of an image.
+fn service_in(image: &[u8]) -> Result<Service, Refusal>
+    ensures { result ≡ ok_or (service_from image.now) Refusal.Image }
+{
+    bytes_service_image::read(image).ok_or(Refusal::Image)
+}
+
+// The present records of what is registered.
+fn records_in(registration: Registration, psus: &[u8], chargers: &[u8]) -> Result<Records, Refusal>
+    ensures { result ≡ ok_or (rows_in registration psus.now chargers.now) Refusal.Records }
+{
+    read_rows(registration, psus, chargers).ok_or(Refusal::Records)
+}
+
+// Writes the image of the service after a call that is accepted.
 fn store(image: &mut [u8], stepped: Stepped) -> u64
-    ensures value { result ≡ (stepped_call image.old stepped).number }
-    ensures image_after { image.new ≡ (stepped_call image.old stepped).bytes }
+    ensures value { result ≡ (stepped_call image.old (accepted stepped)).number }
+    ensures image_after { image.new ≡ (stepped_call image.old (accepted stepped)).bytes }
 {
-    let step = stepped.step;
-    let service = stepped.service;
-    match step {
-        Step::Order(o) => {
-            bytes_service_image::write(image, service);
-            numbers::order(o)
-        }
-        Step::Closed(answer, orders) => {
-            bytes_service_image::write(image, service);
-            numbers::closed(answer, orders)
-        }
-        Step::Refused(number) => numbers::refused(number),
-    }
+    bytes_service_image::write(image, stepped.service);
+    numbers::step(stepped.step)
 }
 
-// An event with records that may be refused.
-fn open_with(
+// An event, or what turns it back.
+fn try_open(
     image: &mut [u8],
-    service: Service,
-    rows: Rows,
-    kind: u32,
-    device: u32,
-    detail: u32,
-) -> u64
-    ensures value { result ≡ (with_rows image.old rows (λ x. open_of service kind device detail x)).number }
-    ensures image_after { image.new ≡ (with_rows image.old rows (λ x. open_of service kind device detail x)).bytes }
-{
-    if rows.ok {
-        let records = rows.records;
-        return store(image, service.open(kind, device, detail, records));
-    }
-    numbers::refused(22)
-}
-
-// An event of a service that may be refused.
-fn open_on(
-    image: &mut [u8],
-    read: ReadService,
     psus: &[u8],
     chargers: &[u8],
     kind: u32,
     device: u32,
     detail: u32,
-) -> u64
-    ensures value { result ≡ (on_service image.old read psus.now chargers.now (λ s x. open_of s kind device detail x)).number }
-    ensures image_after { image.new ≡ (on_service image.old read psus.now chargers.now (λ s x. open_of s kind device detail x)).bytes }
+) -> Result<u64, Refusal>
+    ensures value { number_of result ≡ (open_call image.old psus.now chargers.now kind device detail).number }
+    ensures image_after { image.new ≡ (open_call image.old psus.now chargers.now kind device detail).bytes }
 {
-    match read {
-        ReadService::Refused => numbers::refused(21),
-        ReadService::Read(service) => {
-            let registration = service.registration;
-            let rows = read_rows(registration, psus, chargers);
-            open_with(image, service, rows, kind, device, detail)
-        }
-    }
+    let service = service_in(image)?;
+    let records = records_in(service.registration, psus, chargers)?;
+    let stepped = service.open(kind, device, detail, records)?;
+    Ok(store(image, stepped))
 }
 
 // An event of a kind from a port or a charger, with the present records.
@@ -93,35 +72,18 @@ pub fn open_event(
     ensures value { result ≡ (open_call image.old psus.now chargers.now kind device detail).number }
     ensures image_after { image.new ≡ (open_call image.old psus.now chargers.now kind device detail).bytes }
 {
-    let read = bytes_service_image::read(image);
-    open_on(image, read, psus, chargers, kind, device, detail)
+    numbers::number_of(try_open(image, psus, chargers, kind, device, detail))
 }
 
-// An answer with records that may be refused.
-fn answer_with(image: &mut [u8], service: Service, rows: Rows, answer: u32) -> u64
-    ensures value { result ≡ (with_rows image.old rows (λ x. answer_of service answer x)).number }
-    ensures image_after { image.new ≡ (with_rows image.old rows (λ x. answer_of service answer x)).bytes }
+// An answer, or what turns it back.
+fn try_answer(image: &mut [u8], psus: &[u8], chargers: &[u8], answer: u32) -> Result<u64, Refusal>
+    ensures value { number_of result ≡ (answer_call image.old psus.now chargers.now answer).number }
+    ensures image_after { image.new ≡ (answer_call image.old psus.now chargers.now answer).bytes }
 {
-    if rows.ok {
-        let records = rows.records;
-        return store(image, service.answer(answer, records));
-    }
-    numbers::refused(22)
-}
-
-// An answer to a service that may be refused.
-fn answer_on(image: &mut [u8], read: ReadService, psus: &[u8], chargers: &[u8], answer: u32) -> u64
-    ensures value { result ≡ (on_service image.old read psus.now chargers.now (λ s x. answer_of s answer x)).number }
-    ensures image_after { image.new ≡ (on_service image.old read psus.now chargers.now (λ s x. answer_of s answer x)).bytes }
-{
-    match read {
-        ReadService::Refused => numbers::refused(21),
-        ReadService::Read(service) => {
-            let registration = service.registration;
-            let rows = read_rows(registration, psus, chargers);
-            answer_with(image, service, rows, answer)
-        }
-    }
+    let service = service_in(image)?;
+    let records = records_in(service.registration, psus, chargers)?;
+    let stepped = service.answer(answer, records)?;
+    Ok(store(image, stepped))
 }
 
 // The answer to the open order, with the present records.
@@ -129,55 +91,42 @@ pub fn give_answer(image: &mut [u8], psus: &[u8], chargers: &[u8], answer: u32) 
     ensures value { result ≡ (answer_call image.old psus.now chargers.now answer).number }
     ensures image_after { image.new ≡ (answer_call image.old psus.now chargers.now answer).bytes }
 {
-    let read = bytes_service_image::read(image);
-    answer_on(image, read, psus, chargers, answer)
+    numbers::number_of(try_answer(image, psus, chargers, answer))
 }
 
 // Writes the image of a fresh service, unless the start is refused or the bytes are of another length.
-fn store_started(image: &mut [u8], started: Started) -> u64
-    ensures value { result ≡ (started_call image.old started).number }
-    ensures image_after { image.new ≡ (started_call image.old started).bytes }
+fn try_start(
+    image: &mut [u8],
+    config: Option<Config>,
+    ports: u32,
+    chargers: u32,
+) -> Result<u64, Refusal>
+    ensures value { number_of result ≡ (start_call image.old config ports chargers).number }
+    ensures image_after { image.new ≡ (start_call image.old config ports chargers).bytes }
 {
-    match started {
-        Started::Refused(number) => numbers::refused(number),
-        Started::Service(service) => {
-            if image.len() == SERVICE_IMAGE {
-                bytes_service_image::write(image, service);
-                return numbers::done();
-            }
-            numbers::refused(21)
-        }
+    let service = machine_service::start(config, ports, chargers)?;
+    if image.len() != SERVICE_IMAGE {
+        return Err(Refusal::Image);
     }
+    bytes_service_image::write(image, service);
+    Ok(numbers::done())
 }
 
 // A start with the configuration that was read, and how many ports and chargers there are.
-pub fn start(image: &mut [u8], config: OptionConfig, ports: u32, chargers: u32) -> u64
+pub fn start(image: &mut [u8], config: Option<Config>, ports: u32, chargers: u32) -> u64
     ensures value { result ≡ (start_call image.old config ports chargers).number }
     ensures image_after { image.new ≡ (start_call image.old config ports chargers).bytes }
 {
-    let started = machine_service::start(config, ports, chargers);
-    store_started(image, started)
+    numbers::number_of(try_start(image, config, ports, chargers))
 }
 
-// The order of a phase, or how it closed and after how many orders.
-fn stand_at(order: OptionOrder, phase: Phase, orders: u8) -> u64
-    ensures { result ≡ stand_number order phase orders }
+// The open order of a service, or how its last event closed and after how many orders.
+fn stand_of(service: Service) -> u64
+    ensures { result ≡ stand_number (order_of service.phase) service.phase service.orders }
 {
-    match order {
-        OptionOrder::None => numbers::closed(answer_in(phase), orders),
-        OptionOrder::Some(o) => numbers::order(o),
-    }
-}
-
-fn order_on(read: ReadService) -> u64
-    ensures { result ≡ order_call read }
-{
-    match read {
-        ReadService::Refused => numbers::refused(21),
-        ReadService::Read(service) => {
-            let phase = service.phase;
-            stand_at(phase.order(), phase, service.orders)
-        }
+    match service.phase.order() {
+        None => numbers::closed(answer_in(service.phase), service.orders),
+        Some(o) => numbers::order(o),
     }
 }
 
@@ -185,27 +134,16 @@ fn order_on(read: ReadService) -> u64
 pub fn read_order(image: &[u8]) -> u64
     ensures { result ≡ order_call (service_from image.now) }
 {
-    order_on(bytes_service_image::read(image))
+    numbers::number_of(service_in(image).map(stand_of))
 }
 
-fn store_packet(sent: SentPacket, buffer: &mut [u8]) -> u64
-    ensures value { result ≡ (packet_call sent buffer.old).number }
-    ensures buffer_after { buffer.new ≡ (packet_call sent buffer.old).bytes }
+// Writes the packet of the event closed last.
+fn try_write_packet(image: &[u8], buffer: &mut [u8]) -> Result<usize, Refusal>
+    ensures value { written_as (numbered result) ≡ (write_packet_call (service_from image.now) buffer.old).number }
+    ensures buffer_after { buffer.new ≡ (write_packet_call (service_from image.now) buffer.old).bytes }
 {
-    match sent {
-        SentPacket::Refused(number) => numbers::refused(number),
-        SentPacket::Packet(e) => numbers::stored(wire_writer::write_event(e, buffer)),
-    }
-}
-
-fn packet_on(read: ReadService, buffer: &mut [u8]) -> u64
-    ensures value { result ≡ (write_packet_call read buffer.old).number }
-    ensures buffer_after { buffer.new ≡ (write_packet_call read buffer.old).bytes }
-{
-    match read {
-        ReadService::Refused => numbers::refused(21),
-        ReadService::Read(service) => store_packet(send::packet(service), buffer),
-    }
+    let packet = send::packet(service_in(image)?)?;
+    wire_writer::write_event(packet, buffer)
 }
 
 // The packet of the event closed last, from the front of the buffer on.
@@ -213,27 +151,16 @@ pub fn write_packet(image: &[u8], buffer: &mut [u8]) -> u64
     ensures value { result ≡ (write_packet_call (service_from image.now) buffer.old).number }
     ensures buffer_after { buffer.new ≡ (write_packet_call (service_from image.now) buffer.old).bytes }
 {
-    packet_on(bytes_service_image::read(image), buffer)
+    numbers::stored(try_write_packet(image, buffer))
 }
 
-fn store_picture(sent: SentPicture, buffer: &mut [u8]) -> u64
-    ensures value { result ≡ (picture_call sent buffer.old).number }
-    ensures buffer_after { buffer.new ≡ (picture_call sent buffer.old).bytes }
+// Writes the full picture of what is held.
+fn try_write_picture(image: &[u8], buffer: &mut [u8]) -> Result<usize, Refusal>
+    ensures value { written_as (numbered result) ≡ (write_picture_call (service_from image.now) buffer.old).number }
+    ensures buffer_after { buffer.new ≡ (write_picture_call (service_from image.now) buffer.old).bytes }
 {
-    match sent {
-        SentPicture::Refused(number) => numbers::refused(number),
-        SentPicture::Picture(p) => numbers::stored(wire_writer::write_picture(p, buffer)),
-    }
-}
-
-fn picture_on(read: ReadService, buffer: &mut [u8]) -> u64
-    ensures value { result ≡ (write_picture_call read buffer.old).number }
-    ensures buffer_after { buffer.new ≡ (write_picture_call read buffer.old).bytes }
-{
-    match read {
-        ReadService::Refused => numbers::refused(21),
-        ReadService::Read(service) => store_picture(send::picture(service), buffer),
-    }
+    let picture = send::picture(service_in(image)?)?;
+    wire_writer::write_picture(picture, buffer)
 }
 
 // The full picture of what is held, from the front of the buffer on.
@@ -241,5 +168,5 @@ pub fn write_picture(image: &[u8], buffer: &mut [u8]) -> u64
     ensures value { result ≡ (write_picture_call (service_from image.now) buffer.old).number }
     ensures buffer_after { buffer.new ≡ (write_picture_call (service_from image.now) buffer.old).bytes }
 {
-    picture_on(bytes_service_image::read(image), buffer)
+    numbers::stored(try_write_picture(image, buffer))
 }

@@ -1,22 +1,18 @@
 -- The notices of an event as four groups, each zeros if there is none: provider (7 bytes), consumer disconnected (3), consumer connected (7),
 -- unconstrained figures (3).
-use Rattle.std.specs.Prelude.{ℕ, ◌+◌, cond, List, [], ◌∷◌, ◌++◌, eqb, leb, get_or}
+use Rattle.std.specs.Prelude.{ℕ, ◌+◌, cond, List, [], ◌∷◌, ◌++◌, eqb, leb, get_or, None, Option, Some}
 use Rattle.power_policy_interface.specs.Capability.{bit, disconnect_byte, disconnect_from}
-use Rattle.power_policy_interface.specs.declared.capability.OptionDisconnectFlags.{OptionDisconnectFlags}
-use Rattle.power_policy_interface.specs.declared.capability.OptionProviderPowerCapability.{OptionProviderPowerCapability}
+use Rattle.interface_display.specs.declared.AvailableConsumer.{AvailableConsumer}
+use Rattle.power_policy_interface.specs.declared.capability.DisconnectFlags.{DisconnectFlags}
+use Rattle.power_policy_interface.specs.declared.capability.ProviderPowerCapability.{ProviderPowerCapability}
+use Rattle.power_policy_interface.specs.declared.service.UnconstrainedState.{UnconstrainedState}
 use Rattle.interface_records.specs.Group.{empty_group, provider_group, provider_from, all_zero}
 use Rattle.interface_records.specs.declared.group.Group.{Group}
 use Rattle.bytes_groups.specs.Tagged.{tagged_at, tagged_bytes, no_group, consumer_tagged, optional_from}
-use Rattle.bytes_groups.specs.declared.tagged.ReadOptionConsumer.{ReadOptionConsumer}
 use Rattle.bytes_groups.specs.declared.tagged.Tagged.{Tagged}
-use Rattle.machine_state.specs.declared.memory.DisconnectedNotice.{DisconnectedNotice}
+use Rattle.machine_state.specs.declared.memory.Disconnected.{Disconnected}
 use Rattle.machine_state.specs.declared.memory.Notices.{Notices}
 use Rattle.machine_state.specs.declared.memory.ProviderNotice.{ProviderNotice}
-use Rattle.machine_state.specs.declared.memory.UnconstrainedNotice.{UnconstrainedNotice}
-use Rattle.bytes_service_groups.specs.declared.notices.ReadDisconnected.{ReadDisconnected}
-use Rattle.bytes_service_groups.specs.declared.notices.ReadNotices.{ReadNotices}
-use Rattle.bytes_service_groups.specs.declared.notices.ReadProvider.{ReadProvider}
-use Rattle.bytes_service_groups.specs.declared.notices.ReadUnconstrained.{ReadUnconstrained}
 use Rattle.bytes_service_groups.specs.declared.notices.Triple.{Triple}
 
 abbrev pub triple_at : List ℕ → ℕ → Triple
@@ -32,65 +28,65 @@ provider_tagged ProviderNotice.None = record { tag = 0; group = empty_group 0 }
 provider_tagged (ProviderNotice.Disconnected p) = record { tag = 1; group = empty_group p }
 provider_tagged (ProviderNotice.Connected p c) = record { tag = 2; group = provider_group p c }
 
-abbrev pub disconnected_triple : DisconnectedNotice → Triple
-disconnected_triple DisconnectedNotice.None = record { tag = 0; a = 0; b = 0 }
-disconnected_triple (DisconnectedNotice.Some p f) = record { tag = 1; a = p; b = disconnect_byte f }
+abbrev pub disconnected_triple : Option Disconnected → Triple
+disconnected_triple None = record { tag = 0; a = 0; b = 0 }
+disconnected_triple (Some d) = record { tag = 1; a = d.port; b = disconnect_byte d.flags }
 
-abbrev pub unconstrained_triple : UnconstrainedNotice → Triple
-unconstrained_triple UnconstrainedNotice.None = record { tag = 0; a = 0; b = 0 }
-unconstrained_triple (UnconstrainedNotice.Some u) = record { tag = 1; a = bit u.unconstrained; b = u.available }
+abbrev pub unconstrained_triple : Option UnconstrainedState → Triple
+unconstrained_triple None = record { tag = 0; a = 0; b = 0 }
+unconstrained_triple (Some u) = record { tag = 1; a = bit u.unconstrained; b = u.available }
 
 -- reading
 
-abbrev pub connected_with : ℕ → OptionProviderPowerCapability → ReadProvider
-connected_with p OptionProviderPowerCapability.None = ReadProvider.Refused
-connected_with p (OptionProviderPowerCapability.Some c) = ReadProvider.Read (ProviderNotice.Connected p c)
+abbrev pub connected_with : ℕ → Option ProviderPowerCapability → Option ProviderNotice
+connected_with p None = None
+connected_with p (Some c) = Some (ProviderNotice.Connected p c)
 
-abbrev pub provider_cases : Group → List ReadProvider
+abbrev pub provider_cases : Group → List (Option ProviderNotice)
 provider_cases g =
-    cond (no_group g) (ReadProvider.Read ProviderNotice.None) ReadProvider.Refused
-    ∷ cond (all_zero g) (ReadProvider.Read (ProviderNotice.Disconnected g.number)) ReadProvider.Refused
+    cond (no_group g) (Some ProviderNotice.None) None
+    ∷ cond (all_zero g) (Some (ProviderNotice.Disconnected g.number)) None
     ∷ connected_with g.number (provider_from g)
     ∷ []
 
 -- a kind above 2 is refused
-abbrev pub provider_read : Tagged → ReadProvider
-provider_read t = get_or (provider_cases t.group) t.tag ReadProvider.Refused
+abbrev pub provider_read : Tagged → Option ProviderNotice
+provider_read t = get_or (provider_cases t.group) t.tag None
 
-abbrev pub disconnected_with : ℕ → OptionDisconnectFlags → ReadDisconnected
-disconnected_with p OptionDisconnectFlags.None = ReadDisconnected.Refused
-disconnected_with p (OptionDisconnectFlags.Some f) = ReadDisconnected.Read (DisconnectedNotice.Some p f)
+abbrev pub disconnected_with : ℕ → Option DisconnectFlags → Option (Option Disconnected)
+disconnected_with p None = None
+disconnected_with p (Some f) = Some (Some (record { port = p; flags = f }))
 
-abbrev pub disconnected_cases : ℕ → ℕ → List ReadDisconnected
+abbrev pub disconnected_cases : ℕ → ℕ → List (Option (Option Disconnected))
 disconnected_cases a b =
-    cond (eqb (a + b) 0) (ReadDisconnected.Read DisconnectedNotice.None) ReadDisconnected.Refused
+    cond (eqb (a + b) 0) (Some None) None
     ∷ disconnected_with a (disconnect_from b)
     ∷ []
 
 -- a presence above 1 is refused
-abbrev pub disconnected_read : Triple → ReadDisconnected
-disconnected_read g = get_or (disconnected_cases g.a g.b) g.tag ReadDisconnected.Refused
+abbrev pub disconnected_read : Triple → Option (Option Disconnected)
+disconnected_read g = get_or (disconnected_cases g.a g.b) g.tag None
 
-abbrev pub unconstrained_cases : ℕ → ℕ → List ReadUnconstrained
+abbrev pub unconstrained_cases : ℕ → ℕ → List (Option (Option UnconstrainedState))
 unconstrained_cases a b =
-    cond (eqb (a + b) 0) (ReadUnconstrained.Read UnconstrainedNotice.None) ReadUnconstrained.Refused
+    cond (eqb (a + b) 0) (Some None) None
     ∷ cond (leb a 1)
-    (ReadUnconstrained.Read (UnconstrainedNotice.Some (record { unconstrained = eqb a 1; available = b })))
-    ReadUnconstrained.Refused
+    (Some (Some (record { unconstrained = eqb a 1; available = b })))
+    None
     ∷ []
 
 -- a presence above 1 is refused
-abbrev pub unconstrained_read : Triple → ReadUnconstrained
-unconstrained_read g = get_or (unconstrained_cases g.a g.b) g.tag ReadUnconstrained.Refused
+abbrev pub unconstrained_read : Triple → Option (Option UnconstrainedState)
+unconstrained_read g = get_or (unconstrained_cases g.a g.b) g.tag None
 
 -- the first that is refused refuses all
-abbrev pub notices_with : ReadProvider → ReadDisconnected → ReadOptionConsumer → ReadUnconstrained → ReadNotices
-notices_with ReadProvider.Refused d c u = ReadNotices.Refused
-notices_with (ReadProvider.Read p) ReadDisconnected.Refused c u = ReadNotices.Refused
-notices_with (ReadProvider.Read p) (ReadDisconnected.Read d) ReadOptionConsumer.Refused u = ReadNotices.Refused
-notices_with (ReadProvider.Read p) (ReadDisconnected.Read d) (ReadOptionConsumer.Read c) ReadUnconstrained.Refused = ReadNotices.Refused
-notices_with (ReadProvider.Read p) (ReadDisconnected.Read d) (ReadOptionConsumer.Read c) (ReadUnconstrained.Read u) =
-    ReadNotices.Read (record { provider = p; disconnected = d; connected = c; unconstrained = u })
+abbrev pub notices_with : Option ProviderNotice → Option (Option Disconnected) → Option (Option AvailableConsumer) → Option (Option UnconstrainedState) → Option Notices
+notices_with None d c u = None
+notices_with (Some p) None c u = None
+notices_with (Some p) (Some d) None u = None
+notices_with (Some p) (Some d) (Some c) None = None
+notices_with (Some p) (Some d) (Some c) (Some u) =
+    Some (record { provider = p; disconnected = d; connected = c; unconstrained = u })
 
 -- bytes 47 to 66
 
@@ -100,7 +96,7 @@ notices_bytes n =
     ++ (triple_bytes (disconnected_triple n.disconnected)
     ++ (tagged_bytes (consumer_tagged n.connected) ++ triple_bytes (unconstrained_triple n.unconstrained)))
 
-abbrev pub notices_from : List ℕ → ReadNotices
+abbrev pub notices_from : List ℕ → Option Notices
 notices_from b =
     notices_with (provider_read (tagged_at b 47)) (disconnected_read (triple_at b 54)) (optional_from (tagged_at b 57))
     (unconstrained_read (triple_at b 64))

@@ -1,26 +1,20 @@
 -- Where an event stands, as ten bytes: a kind, three bytes that depend on it, and a contract (the table of docs/STATE.md).
-use Rattle.std.specs.Prelude.{ℕ, suc, ◌+◌, ◌-◌, cond, List, [], ◌∷◌, eqb, ltb, get_or}
+use Rattle.std.specs.Prelude.{ℕ, suc, ◌+◌, ◌-◌, cond, List, [], ◌∷◌, eqb, ltb, get_or, Err, None, Ok, Option, Result, Some}
 use Rattle.power_policy_interface.specs.Capability.{disconnect_byte, disconnect_from}
 use Rattle.power_policy_interface.specs.Psu.{answer_byte, answer_from, mismatch_of, expected_byte, actual_byte}
-use Rattle.power_policy_interface.specs.declared.capability.OptionConsumerPowerCapability.{OptionConsumerPowerCapability}
-use Rattle.power_policy_interface.specs.declared.capability.OptionDisconnectFlags.{OptionDisconnectFlags}
-use Rattle.power_policy_interface.specs.declared.capability.OptionProviderPowerCapability.{OptionProviderPowerCapability}
+use Rattle.power_policy_interface.specs.declared.capability.ConsumerPowerCapability.{ConsumerPowerCapability}
+use Rattle.power_policy_interface.specs.declared.capability.DisconnectFlags.{DisconnectFlags}
+use Rattle.power_policy_interface.specs.declared.capability.ProviderPowerCapability.{ProviderPowerCapability}
+use Rattle.power_policy_interface.specs.declared.psu.Mismatch.{Mismatch}
 use Rattle.power_policy_interface.specs.declared.psu.Error.{Error}
-use Rattle.power_policy_interface.specs.declared.psu.OptionMismatch.{OptionMismatch}
-use Rattle.power_policy_interface.specs.declared.psu.OptionResult.{OptionResult}
-use Rattle.power_policy_interface.specs.declared.psu.Result.{Result}
 use Rattle.power_policy_interface.specs.declared.psu.StateKind.{StateKind}
 use Rattle.interface_records.specs.Group.{group_bytes, empty_group, consumer_group, provider_group, consumer_from, provider_from}
 use Rattle.interface_records.specs.declared.group.Group.{Group}
 use Rattle.interface_display.specs.declared.AvailableConsumer.{AvailableConsumer}
-use Rattle.interface_display.specs.declared.OptionAvailableConsumer.{OptionAvailableConsumer}
 use Rattle.bytes_groups.specs.Tagged.{no_group}
 use Rattle.machine_state.specs.declared.phase.Leaver.{Leaver}
 use Rattle.machine_state.specs.declared.phase.Phase.{Phase}
 use Rattle.machine_state.specs.declared.phase.Stage.{Stage}
-use Rattle.bytes_service_groups.specs.declared.phase.ReadKind.{ReadKind}
-use Rattle.bytes_service_groups.specs.declared.phase.ReadPhase.{ReadPhase}
-use Rattle.bytes_service_groups.specs.declared.phase.ReadStage.{ReadStage}
 use Rattle.bytes_service_groups.specs.declared.phase.Standing.{Standing}
 
 abbrev pub standing_at : List ℕ → ℕ → Standing
@@ -45,9 +39,9 @@ standing_bytes g = g.kind ∷ g.a ∷ g.b ∷ g.c ∷ group_bytes g.contract
 
 -- writing
 
-abbrev pub mismatch_in : Result → OptionMismatch
-mismatch_in Result.Ok = OptionMismatch.None
-mismatch_in (Result.Err e) = mismatch_of e
+abbrev pub mismatch_in : Result (Unit {0}) Error → Option Mismatch
+mismatch_in (Ok tt) = None
+mismatch_in (Err e) = mismatch_of e
 
 -- 0 the PSU, i + 1 charger i; no console has a charger 255
 abbrev pub leaver_byte : Leaver → ℕ
@@ -68,7 +62,7 @@ stage_charger (Stage.Readying i) = i
 stage_charger (Stage.Initializing i) = i
 stage_charger (Stage.Attaching i) = i
 
-abbrev pub closed_standing : Result → Standing
+abbrev pub closed_standing : Result (Unit {0}) Error → Standing
 closed_standing r =
     record {
       kind = 0;
@@ -91,109 +85,109 @@ standing (Phase.Providing p c) = record { kind = 4; a = 0; b = 0; c = 0; contrac
 
 -- reading
 
-abbrev pub kinds : List ReadKind
+abbrev pub kinds : List (Option StateKind)
 kinds =
-    ReadKind.Read StateKind.Detached
-    ∷ ReadKind.Read StateKind.Idle
-    ∷ ReadKind.Read StateKind.ConnectedProvider
-    ∷ ReadKind.Read StateKind.ConnectedConsumer
+    Some StateKind.Detached
+    ∷ Some StateKind.Idle
+    ∷ Some StateKind.ConnectedProvider
+    ∷ Some StateKind.ConnectedConsumer
     ∷ []
 
 -- a state above 3 is refused
-abbrev pub kind_from : ℕ → ReadKind
-kind_from b = get_or kinds b ReadKind.Refused
+abbrev pub kind_from : ℕ → Option StateKind
+kind_from b = get_or kinds b None
 
-abbrev pub mismatch_with : ℕ → ReadKind → OptionResult
-mismatch_with b ReadKind.Refused = OptionResult.None
-mismatch_with b (ReadKind.Read k) =
-    OptionResult.Some (Result.Err (Error.InvalidState (OptionMismatch.Some (record { expected = b; actual = k }))))
+abbrev pub mismatch_with : ℕ → Option StateKind → Option (Result (Unit {0}) Error)
+mismatch_with b None = None
+mismatch_with b (Some k) =
+    Some (Err (Error.InvalidState (Some (record { expected = b; actual = k }))))
 
 -- no expected states: the device's own InvalidState, which carries nothing
-abbrev pub invalid_from : ℕ → ℕ → OptionResult
+abbrev pub invalid_from : ℕ → ℕ → Option (Result (Unit {0}) Error)
 invalid_from b c =
     cond (eqb b 0)
-    (cond (eqb c 0) (OptionResult.Some (Result.Err (Error.InvalidState OptionMismatch.None))) OptionResult.None)
+    (cond (eqb c 0) (Some (Err (Error.InvalidState None))) None)
     (mismatch_with b (kind_from c))
 
 -- expected and actual stand only with answer 4
-abbrev pub result_from : ℕ → ℕ → ℕ → OptionResult
-result_from a b c = cond (eqb a 4) (invalid_from b c) (cond (eqb (b + c) 0) (answer_from a) OptionResult.None)
+abbrev pub result_from : ℕ → ℕ → ℕ → Option (Result (Unit {0}) Error)
+result_from a b c = cond (eqb a 4) (invalid_from b c) (cond (eqb (b + c) 0) (answer_from a) None)
 
-abbrev pub closed_with : OptionResult → ReadPhase
-closed_with OptionResult.None = ReadPhase.Refused
-closed_with (OptionResult.Some r) = ReadPhase.Read (Phase.Closed r)
+abbrev pub closed_with : Option (Result (Unit {0}) Error) → Option Phase
+closed_with None = None
+closed_with (Some r) = Some (Phase.Closed r)
 
-abbrev pub closed_from : Standing → ReadPhase
-closed_from g = cond (no_group g.contract) (closed_with (result_from g.a g.b g.c)) ReadPhase.Refused
+abbrev pub closed_from : Standing → Option Phase
+closed_from g = cond (no_group g.contract) (closed_with (result_from g.a g.b g.c)) None
 
-abbrev pub leaving_with : ℕ → ℕ → OptionDisconnectFlags → ReadPhase
-leaving_with i p OptionDisconnectFlags.None = ReadPhase.Refused
-leaving_with i p (OptionDisconnectFlags.Some f) = ReadPhase.Read (Phase.Leaving i p f)
+abbrev pub leaving_with : ℕ → ℕ → Option DisconnectFlags → Option Phase
+leaving_with i p None = None
+leaving_with i p (Some f) = Some (Phase.Leaving i p f)
 
-abbrev pub leaving_from : Standing → ReadPhase
-leaving_from g = cond (no_group g.contract) (leaving_with g.a g.b (disconnect_from g.c)) ReadPhase.Refused
+abbrev pub leaving_from : Standing → Option Phase
+leaving_from g = cond (no_group g.contract) (leaving_with g.a g.b (disconnect_from g.c)) None
 
 -- a new consumer; none where the flag byte is refused
-abbrev pub new_with : ℕ → OptionConsumerPowerCapability → OptionAvailableConsumer
-new_with p OptionConsumerPowerCapability.None = OptionAvailableConsumer.None
-new_with p (OptionConsumerPowerCapability.Some c) =
-    OptionAvailableConsumer.Some (record { psu = p; consumer_power_capability = c })
+abbrev pub new_with : ℕ → Option ConsumerPowerCapability → Option AvailableConsumer
+new_with p None = None
+new_with p (Some c) =
+    Some (record { psu = p; consumer_power_capability = c })
 
-abbrev pub new_from : Group → OptionAvailableConsumer
+abbrev pub new_from : Group → Option AvailableConsumer
 new_from g = new_with g.number (consumer_from g)
 
 abbrev pub leaver_from : ℕ → Leaver
 leaver_from a = cond (eqb a 0) Leaver.Psu (Leaver.Charger (a - 1))
 
-abbrev pub switching_with : Leaver → ℕ → OptionDisconnectFlags → OptionAvailableConsumer → ReadPhase
-switching_with l old OptionDisconnectFlags.None n = ReadPhase.Refused
-switching_with l old (OptionDisconnectFlags.Some f) OptionAvailableConsumer.None = ReadPhase.Refused
-switching_with l old (OptionDisconnectFlags.Some f) (OptionAvailableConsumer.Some new) =
-    ReadPhase.Read (Phase.Switching l old f new)
+abbrev pub switching_with : Leaver → ℕ → Option DisconnectFlags → Option AvailableConsumer → Option Phase
+switching_with l old None n = None
+switching_with l old (Some f) None = None
+switching_with l old (Some f) (Some new) =
+    Some (Phase.Switching l old f new)
 
-abbrev pub switching_from : Standing → ReadPhase
+abbrev pub switching_from : Standing → Option Phase
 switching_from g = switching_with (leaver_from g.a) g.b (disconnect_from g.c) (new_from g.contract)
 
 -- a stage with no charger has a 0
-abbrev pub bare : ℕ → Stage → ReadStage
-bare b s = cond (eqb b 0) (ReadStage.Read s) ReadStage.Refused
+abbrev pub bare : ℕ → Stage → Option Stage
+bare b s = cond (eqb b 0) (Some s) None
 
-abbrev pub stages : ℕ → List ReadStage
+abbrev pub stages : ℕ → List (Option Stage)
 stages b =
     bare b Stage.Psu
     ∷ bare b Stage.Settling
-    ∷ ReadStage.Read (Stage.Readying b)
-    ∷ ReadStage.Read (Stage.Initializing b)
-    ∷ ReadStage.Read (Stage.Attaching b)
+    ∷ Some (Stage.Readying b)
+    ∷ Some (Stage.Initializing b)
+    ∷ Some (Stage.Attaching b)
     ∷ []
 
 -- a stage above 4 is refused
-abbrev pub stage_from : ℕ → ℕ → ReadStage
-stage_from a b = get_or (stages b) a ReadStage.Refused
+abbrev pub stage_from : ℕ → ℕ → Option Stage
+stage_from a b = get_or (stages b) a None
 
-abbrev pub connecting_with : ReadStage → OptionAvailableConsumer → ReadPhase
-connecting_with ReadStage.Refused n = ReadPhase.Refused
-connecting_with (ReadStage.Read s) OptionAvailableConsumer.None = ReadPhase.Refused
-connecting_with (ReadStage.Read s) (OptionAvailableConsumer.Some new) = ReadPhase.Read (Phase.Connecting s new)
+abbrev pub connecting_with : Option Stage → Option AvailableConsumer → Option Phase
+connecting_with None n = None
+connecting_with (Some s) None = None
+connecting_with (Some s) (Some new) = Some (Phase.Connecting s new)
 
-abbrev pub connecting_from : Standing → ReadPhase
+abbrev pub connecting_from : Standing → Option Phase
 connecting_from g =
-    cond (eqb g.c 0) (connecting_with (stage_from g.a g.b) (new_from g.contract)) ReadPhase.Refused
+    cond (eqb g.c 0) (connecting_with (stage_from g.a g.b) (new_from g.contract)) None
 
-abbrev pub providing_with : ℕ → OptionProviderPowerCapability → ReadPhase
-providing_with p OptionProviderPowerCapability.None = ReadPhase.Refused
-providing_with p (OptionProviderPowerCapability.Some c) = ReadPhase.Read (Phase.Providing p c)
+abbrev pub providing_with : ℕ → Option ProviderPowerCapability → Option Phase
+providing_with p None = None
+providing_with p (Some c) = Some (Phase.Providing p c)
 
-abbrev pub providing_from : Standing → ReadPhase
+abbrev pub providing_from : Standing → Option Phase
 providing_from g =
-    cond (eqb (g.a + g.b + g.c) 0) (providing_with g.contract.number (provider_from g.contract)) ReadPhase.Refused
+    cond (eqb (g.a + g.b + g.c) 0) (providing_with g.contract.number (provider_from g.contract)) None
 
-abbrev pub phases : Standing → List ReadPhase
+abbrev pub phases : Standing → List (Option Phase)
 phases g = closed_from g ∷ leaving_from g ∷ switching_from g ∷ connecting_from g ∷ providing_from g ∷ []
 
 -- a kind above 4 is refused
-abbrev pub phase_from : Standing → ReadPhase
-phase_from g = get_or (phases g) g.kind ReadPhase.Refused
+abbrev pub phase_from : Standing → Option Phase
+phase_from g = get_or (phases g) g.kind None
 
 -- bytes 37 to 46
 abbrev pub phase_bytes : Phase → List ℕ

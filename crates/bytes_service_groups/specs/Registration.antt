@@ -1,11 +1,8 @@
 -- What is registered, as 19 bytes: ports, chargers, limited_power_threshold_mw, provider_unlimited, provider_limited, and
 -- min_consumer_threshold_mw as 0 and four zeros or 1 and the figure.
-use Rattle.std.specs.Prelude.{ℕ, ◌+◌, cond, List, [], ◌∷◌, ◌++◌, eqb, get_or}
-use Rattle.power_policy_service.specs.declared.config.OptionMilliwatts.{OptionMilliwatts}
-use Rattle.power_policy_service.specs.declared.config.ReadMinimum.{ReadMinimum}
+use Rattle.std.specs.Prelude.{ℕ, ◌+◌, cond, List, [], ◌∷◌, ◌++◌, eqb, get_or, None, Option, Some}
 use Rattle.abstract_policy.specs.declared.state.Registration.{Registration}
 use Rattle.bytes_groups.specs.Quad.{quad_at, quad_bytes, number_quad, number_from, power_quad, power_from}
-use Rattle.bytes_service_groups.specs.declared.registration.ReadRegistration.{ReadRegistration}
 use Rattle.bytes_service_groups.specs.declared.registration.Registered.{Registered}
 
 abbrev pub registered_at : List ℕ → ℕ → Registered
@@ -28,13 +25,13 @@ registered_bytes g =
 
 -- writing
 
-abbrev pub presence : OptionMilliwatts → ℕ
-presence OptionMilliwatts.None = 0
-presence (OptionMilliwatts.Some n) = 1
+abbrev pub presence : Option ℕ → ℕ
+presence None = 0
+presence (Some n) = 1
 
-abbrev pub figure : OptionMilliwatts → ℕ
-figure OptionMilliwatts.None = 0
-figure (OptionMilliwatts.Some n) = n
+abbrev pub figure : Option ℕ → ℕ
+figure None = 0
+figure (Some n) = n
 
 abbrev pub registered : Registration → Registered
 registered g =
@@ -50,20 +47,20 @@ registered g =
 
 -- reading
 
-abbrev pub minimum_cases : ℕ → List ReadMinimum
+abbrev pub minimum_cases : ℕ → List (Option (Option ℕ))
 minimum_cases n =
-    cond (eqb n 0) (ReadMinimum.Read OptionMilliwatts.None) ReadMinimum.Refused
-    ∷ ReadMinimum.Read (OptionMilliwatts.Some n)
+    cond (eqb n 0) (Some None) None
+    ∷ Some (Some n)
     ∷ []
 
 -- a presence above 1 is refused
-abbrev pub minimum_read : ℕ → ℕ → ReadMinimum
-minimum_read p n = get_or (minimum_cases n) p ReadMinimum.Refused
+abbrev pub minimum_read : ℕ → ℕ → Option (Option ℕ)
+minimum_read p n = get_or (minimum_cases n) p None
 
-abbrev pub registration_with : ReadMinimum → Registered → ReadRegistration
-registration_with ReadMinimum.Refused g = ReadRegistration.Refused
-registration_with (ReadMinimum.Read m) g =
-    ReadRegistration.Read (record {
+abbrev pub registration_with : Option (Option ℕ) → Registered → Option Registration
+registration_with None g = None
+registration_with (Some m) g =
+    Some (record {
       config = record {
         limited_power_threshold_mw = number_from g.threshold;
         provider_unlimited = power_from g.unlimited;
@@ -74,7 +71,7 @@ registration_with (ReadMinimum.Read m) g =
       chargers = g.chargers;
     })
 
-abbrev pub registration_from : Registered → ReadRegistration
+abbrev pub registration_from : Registered → Option Registration
 registration_from g = registration_with (minimum_read g.presence (number_from g.figure)) g
 
 -- bytes 0 to 23: the first byte, what is registered, and the number of the event closed last

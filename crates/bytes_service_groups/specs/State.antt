@@ -1,13 +1,11 @@
 -- What is held between events, as the display's 11 bytes and the power state's, 0 Unlimited or 1 Limited.
-use Rattle.std.specs.Prelude.{ℕ, List, [], ◌∷◌, ◌++◌, get_or}
+use Rattle.std.specs.Prelude.{ℕ, List, [], ◌∷◌, ◌++◌, get_or, None, Option, Some}
 use Rattle.power_policy_service.specs.declared.provider.PowerState.{PowerState}
 use Rattle.abstract_policy.specs.State.{display_of}
 use Rattle.abstract_policy.specs.declared.state.InternalState.{InternalState}
 use Rattle.bytes_groups.specs.Shown.{shown_bytes, display_shown, display_from}
-use Rattle.bytes_groups.specs.declared.shown.ReadDisplay.{ReadDisplay}
+use Rattle.interface_display.specs.declared.Display.{Display}
 use Rattle.bytes_groups.specs.declared.shown.Shown.{Shown}
-use Rattle.bytes_service_groups.specs.declared.state.ReadPowerState.{ReadPowerState}
-use Rattle.bytes_service_groups.specs.declared.state.ReadState.{ReadState}
 
 -- writing
 
@@ -17,25 +15,25 @@ power_byte PowerState.Limited = 1
 
 -- reading
 
-abbrev pub powers : List ReadPowerState
-powers = ReadPowerState.Read PowerState.Unlimited ∷ ReadPowerState.Read PowerState.Limited ∷ []
+abbrev pub powers : List (Option PowerState)
+powers = Some PowerState.Unlimited ∷ Some PowerState.Limited ∷ []
 
 -- a power state above 1 is refused
-abbrev pub power_state_from : ℕ → ReadPowerState
-power_state_from b = get_or powers b ReadPowerState.Refused
+abbrev pub power_state_from : ℕ → Option PowerState
+power_state_from b = get_or powers b None
 
-abbrev pub state_with : ReadDisplay → ReadPowerState → ReadState
-state_with ReadDisplay.Refused p = ReadState.Refused
-state_with (ReadDisplay.Read d) ReadPowerState.Refused = ReadState.Refused
-state_with (ReadDisplay.Read d) (ReadPowerState.Read p) =
-    ReadState.Read (record {
+abbrev pub state_with : Option Display → Option PowerState → Option InternalState
+state_with None p = None
+state_with (Some d) None = None
+state_with (Some d) (Some p) =
+    Some (record {
       current_consumer_state = d.consumer;
       current_provider_state = p;
       unconstrained = d.unconstrained;
       connected_providers = d.providers;
     })
 
-abbrev pub state_from : Shown → ℕ → ReadState
+abbrev pub state_from : Shown → ℕ → Option InternalState
 state_from g b = state_with (display_from g) (power_state_from b)
 
 -- bytes 24 to 36: what is held, and the orders given

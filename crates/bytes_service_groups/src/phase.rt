@@ -5,13 +5,10 @@ ghost use Rattle.bytes_service_groups.specs.Phase.{phase_bytes, standing_at, sta
 
 use bytes_groups::place;
 use bytes_groups::tagged::is_empty;
-use interface_display::{AvailableConsumer, OptionAvailableConsumer};
+use interface_display::AvailableConsumer;
 use interface_records::group::Group;
 use machine_state::phase::{Leaver, Phase, Stage};
-use power_policy_interface::capability::{
-    DisconnectFlags, OptionConsumerPowerCapability, OptionDisconnectFlags,
-    OptionProviderPowerCapability,
-};
+use power_policy_interface::capability::DisconnectFlags;
 use power_policy_interface::psu;
 use power_policy_interface::psu::StateKind;
 
@@ -25,33 +22,12 @@ pub struct Standing {
     pub contract: Group,
 }
 
-// What reading a state's number finds.
-#[derive(Clone, Copy)]
-pub enum ReadKind {
-    Refused,
-    Read(StateKind),
-}
-
-// What reading a stage finds.
-#[derive(Clone, Copy)]
-pub enum ReadStage {
-    Refused,
-    Read(Stage),
-}
-
-// What reading a phase finds.
-#[derive(Clone, Copy)]
-pub enum ReadPhase {
-    Refused,
-    Read(Phase),
-}
-
-fn mismatch_in(r: psu::Result) -> psu::OptionMismatch
+fn mismatch_in(r: Result<(), psu::Error>) -> Option<psu::Mismatch>
     ensures { result ≡ mismatch_in r }
 {
     match r {
-        psu::Result::Ok => psu::OptionMismatch::None,
-        psu::Result::Err(e) => e.mismatch(),
+        Ok(()) => None,
+        Err(e) => e.mismatch(),
     }
 }
 
@@ -61,12 +37,7 @@ fn leaver_byte(l: Leaver) -> u8
 {
     match l {
         Leaver::Psu => 0,
-        Leaver::Charger(i) => {
-            if i < 255 {
-                return i + 1;
-            }
-            255
-        }
+        Leaver::Charger(i) => i.saturating_add(1),
     }
 }
 
@@ -87,26 +58,22 @@ fn stage_charger(s: Stage) -> u8
     ensures { result ≡ stage_charger s }
 {
     match s {
-        Stage::Psu => 0,
-        Stage::Settling => 0,
-        Stage::Readying(i) => i,
-        Stage::Initializing(i) => i,
-        Stage::Attaching(i) => i,
+        Stage::Psu | Stage::Settling => 0,
+        Stage::Readying(i) | Stage::Initializing(i) | Stage::Attaching(i) => i,
     }
 }
 
 // A closed event's answer.
-fn closed_standing(r: psu::Result) -> Standing
+fn closed_standing(r: Result<(), psu::Error>) -> Standing
     ensures { result ≡ closed_standing r }
 {
     let m = mismatch_in(r);
-    let contract = Group::empty(0);
     Standing {
         kind: 0,
-        a: r.byte(),
-        b: m.expected(),
-        c: m.actual(),
-        contract,
+        a: psu::answer_byte(r),
+        b: psu::expected(m),
+        c: psu::actual(m),
+        contract: Group::empty(0),
     }
 }
 
@@ -114,152 +81,116 @@ fn closed_standing(r: psu::Result) -> Standing
 fn contract_of(new: AvailableConsumer) -> Group
     ensures { result ≡ contract_of new }
 {
-    let c = new.consumer_power_capability;
-    Group::of_consumer(new.psu, c)
+    Group::of(new.psu, new.consumer_power_capability)
 }
 
-pub fn standing_of(p: Phase) -> Standing
-    ensures { result ≡ standing p }
-{
-    match p {
-        Phase::Closed(r) => closed_standing(r),
-        Phase::Leaving(i, port, f) => {
-            let contract = Group::empty(0);
-            Standing {
+impl From<Phase> for Standing {
+    ghost from_gives = { λ p g. g ≡ standing p };
+
+    fn from(p: Phase) -> Standing {
+        match p {
+            Phase::Closed(r) => closed_standing(r),
+            Phase::Leaving(i, port, f) => Standing {
                 kind: 1,
                 a: i,
                 b: port,
-                c: f.byte(),
-                contract,
-            }
-        }
-        Phase::Switching(l, old, f, new) => {
-            let contract = contract_of(new);
-            Standing {
+                c: u8::from(f),
+                contract: Group::empty(0),
+            },
+            Phase::Switching(l, old, f, new) => Standing {
                 kind: 2,
                 a: leaver_byte(l),
                 b: old,
-                c: f.byte(),
-                contract,
-            }
-        }
-        Phase::Connecting(s, new) => {
-            let contract = contract_of(new);
-            Standing {
+                c: u8::from(f),
+                contract: contract_of(new),
+            },
+            Phase::Connecting(s, new) => Standing {
                 kind: 3,
                 a: stage_byte(s),
                 b: stage_charger(s),
                 c: 0,
-                contract,
-            }
-        }
-        Phase::Providing(port, k) => {
-            let contract = Group::of_provider(port, k);
-            Standing {
+                contract: contract_of(new),
+            },
+            Phase::Providing(port, k) => Standing {
                 kind: 4,
                 a: 0,
                 b: 0,
                 c: 0,
-                contract,
-            }
+                contract: Group::of(port, k),
+            },
         }
     }
 }
 
-fn read_kind(b: u8) -> ReadKind
+// The kind of an image's byte.
+fn read_kind(b: u8) -> Option<StateKind>
     ensures { result ≡ kind_from b }
 {
     match b {
-        0 => ReadKind::Read(StateKind::Detached),
-        1 => ReadKind::Read(StateKind::Idle),
-        2 => ReadKind::Read(StateKind::ConnectedProvider),
-        3 => ReadKind::Read(StateKind::ConnectedConsumer),
-        _ => ReadKind::Refused,
+        0 => Some(StateKind::Detached),
+        1 => Some(StateKind::Idle),
+        2 => Some(StateKind::ConnectedProvider),
+        3 => Some(StateKind::ConnectedConsumer),
+        _ => None,
     }
 }
 
 // An InvalidState: with no expected states it carries nothing.
-fn read_invalid(b: u8, c: u8) -> psu::OptionResult
+fn read_invalid(b: u8, c: u8) -> Option<Result<(), psu::Error>>
     ensures { result ≡ invalid_from b c }
 {
-    if b == 0 {
-        if c == 0 {
-            return psu::OptionResult::Some(psu::Result::Err(psu::Error::InvalidState(
-                psu::OptionMismatch::None,
-            )));
-        }
-        return psu::OptionResult::None;
-    }
-    let ReadKind::Read(actual) = read_kind(c) else {
-        return psu::OptionResult::None;
+    let m = match b {
+        0 if c == 0 => None,
+        0 => return None,
+        _ => Some(psu::Mismatch {
+            expected: b,
+            actual: read_kind(c)?,
+        }),
     };
-    let m = psu::Mismatch {
-        expected: b,
-        actual,
-    };
-    psu::OptionResult::Some(psu::Result::Err(psu::Error::InvalidState(psu::OptionMismatch::Some(
-        m,
-    ))))
+    Some(Err(psu::Error::InvalidState(m)))
 }
 
 // An answer; expected and actual states stand only with 4.
-fn read_result(a: u8, b: u8, c: u8) -> psu::OptionResult
+fn read_result(a: u8, b: u8, c: u8) -> Option<Result<(), psu::Error>>
     ensures { result ≡ result_from a b c }
 {
-    if a == 4 {
-        return read_invalid(b, c);
+    match (a, b, c) {
+        (4, _, _) => read_invalid(b, c),
+        (_, 0, 0) => psu::answer_from(a),
+        _ => None,
     }
-    if (b as u16) + (c as u16) == 0 {
-        return psu::Result::from_byte(a);
-    }
-    psu::OptionResult::None
 }
 
 // A new consumer, none where the flag byte is refused.
-fn read_new(g: Group) -> OptionAvailableConsumer
+fn read_new(g: Group) -> Option<AvailableConsumer>
     ensures { result ≡ new_from g }
 {
-    match g.consumer() {
-        OptionConsumerPowerCapability::None => OptionAvailableConsumer::None,
-        OptionConsumerPowerCapability::Some(consumer_power_capability) =>
-            OptionAvailableConsumer::Some(AvailableConsumer {
-                psu: g.number,
-                consumer_power_capability,
-            }),
-    }
+    Some(AvailableConsumer {
+        psu: g.number,
+        consumer_power_capability: g.flagged()?,
+    })
 }
 
 fn read_leaver(a: u8) -> Leaver
     ensures { result ≡ leaver_from a }
 {
-    if a == 0 {
-        return Leaver::Psu;
+    match a {
+        0 => Leaver::Psu,
+        _ => Leaver::Charger(a - 1),
     }
-    Leaver::Charger(a - 1)
 }
 
-fn read_stage(a: u8, b: u8) -> ReadStage
+// The stage of an image's bytes.
+fn read_stage(a: u8, b: u8) -> Option<Stage>
     ensures { result ≡ stage_from a b }
 {
     match a {
-        0 => {
-            if b == 0 {
-                ReadStage::Read(Stage::Psu)
-            } else {
-                ReadStage::Refused
-            }
-        }
-        1 => {
-            if b == 0 {
-                ReadStage::Read(Stage::Settling)
-            } else {
-                ReadStage::Refused
-            }
-        }
-        2 => ReadStage::Read(Stage::Readying(b)),
-        3 => ReadStage::Read(Stage::Initializing(b)),
-        4 => ReadStage::Read(Stage::Attaching(b)),
-        _ => ReadStage::Refused,
+        0 if b == 0 => Some(Stage::Psu),
+        1 if b == 0 => Some(Stage::Settling),
+        2 => Some(Stage::Readying(b)),
+        3 => Some(Stage::Initializing(b)),
+        4 => Some(Stage::Attaching(b)),
+        _ => None,
     }
 }
 
@@ -268,16 +199,16 @@ impl Standing {
     pub fn at(s: &[u8]) -> Standing
         ensures { result ≡ standing_at s.now 37 }
     {
-        let contract = Group::at(s, 41);
         Standing {
             kind: place::byte(s, 37, 0),
             a: place::byte(s, 37, 1),
             b: place::byte(s, 37, 2),
             c: place::byte(s, 37, 3),
-            contract,
+            contract: Group::at(s, 41),
         }
     }
 
+    // A method, as the library's to_le_bytes: with a From each call would name the array's length.
     pub fn bytes(self) -> [u8; 10]
         ensures { result ≡ standing_bytes self }
     {
@@ -287,98 +218,66 @@ impl Standing {
         ]
     }
 
-    fn closed(self) -> ReadPhase
+    fn closed(self) -> Option<Phase>
         ensures { result ≡ closed_from self }
     {
-        let contract = self.contract;
-        if is_empty(contract) {
-            match read_result(self.a, self.b, self.c) {
-                psu::OptionResult::None => {
-                    return ReadPhase::Refused;
-                }
-                psu::OptionResult::Some(r) => {
-                    return ReadPhase::Read(Phase::Closed(r));
-                }
-            }
+        if !is_empty(self.contract) {
+            return None;
         }
-        ReadPhase::Refused
+        Some(Phase::Closed(read_result(self.a, self.b, self.c)?))
     }
 
-    fn leaving(self) -> ReadPhase
+    fn leaving(self) -> Option<Phase>
         ensures { result ≡ leaving_from self }
     {
-        let contract = self.contract;
-        if is_empty(contract) {
-            match DisconnectFlags::from_byte(self.c) {
-                OptionDisconnectFlags::None => {
-                    return ReadPhase::Refused;
-                }
-                OptionDisconnectFlags::Some(f) => {
-                    return ReadPhase::Read(Phase::Leaving(self.a, self.b, f));
-                }
-            }
+        if !is_empty(self.contract) {
+            return None;
         }
-        ReadPhase::Refused
+        let f = DisconnectFlags::try_from(self.c).ok()?;
+        Some(Phase::Leaving(self.a, self.b, f))
     }
 
-    fn switching(self) -> ReadPhase
+    fn switching(self) -> Option<Phase>
         ensures { result ≡ switching_from self }
     {
-        let contract = self.contract;
         let l = read_leaver(self.a);
-        let OptionDisconnectFlags::Some(f) = DisconnectFlags::from_byte(self.c) else {
-            return ReadPhase::Refused;
-        };
-        let OptionAvailableConsumer::Some(new) = read_new(contract) else {
-            return ReadPhase::Refused;
-        };
-        ReadPhase::Read(Phase::Switching(l, self.b, f, new))
+        let f = DisconnectFlags::try_from(self.c).ok()?;
+        let new = read_new(self.contract)?;
+        Some(Phase::Switching(l, self.b, f, new))
     }
 
-    fn connecting(self) -> ReadPhase
+    fn connecting(self) -> Option<Phase>
         ensures { result ≡ connecting_from self }
     {
         if self.c != 0 {
-            return ReadPhase::Refused;
+            return None;
         }
-        let contract = self.contract;
-        let ReadStage::Read(s) = read_stage(self.a, self.b) else {
-            return ReadPhase::Refused;
-        };
-        let OptionAvailableConsumer::Some(new) = read_new(contract) else {
-            return ReadPhase::Refused;
-        };
-        ReadPhase::Read(Phase::Connecting(s, new))
+        let s = read_stage(self.a, self.b)?;
+        let new = read_new(self.contract)?;
+        Some(Phase::Connecting(s, new))
     }
 
-    fn providing(self) -> ReadPhase
+    fn providing(self) -> Option<Phase>
         ensures { result ≡ providing_from self }
     {
         if (self.a as u16) + (self.b as u16) + (self.c as u16) != 0 {
-            return ReadPhase::Refused;
+            return None;
         }
         let contract = self.contract;
-        match contract.provider() {
-            OptionProviderPowerCapability::None => ReadPhase::Refused,
-            OptionProviderPowerCapability::Some(c) => ReadPhase::Read(Phase::Providing(
-                contract.number,
-                c,
-            )),
-        }
+        Some(Phase::Providing(contract.number, contract.flagged()?))
     }
 
     // The phase; refused for bytes that none is written as.
-    pub fn read(self) -> ReadPhase
+    pub fn read(self) -> Option<Phase>
         ensures { result ≡ phase_from self }
     {
-        let kind = self.kind;
-        match kind {
+        match self.kind {
             0 => self.closed(),
             1 => self.leaving(),
             2 => self.switching(),
             3 => self.connecting(),
             4 => self.providing(),
-            _ => ReadPhase::Refused,
+            _ => None,
         }
     }
 }
@@ -387,6 +286,5 @@ impl Standing {
 pub fn put_phase(image: &mut [u8], phase: Phase)
     ensures { image.new ≡ sets image.old 37 (phase_bytes phase) }
 {
-    let a = standing_of(phase).bytes();
-    place::put(image, 37, &a);
+    place::put(image, 37, &Standing::from(phase).bytes());
 }

@@ -6,7 +6,8 @@ ghost use Rattle.bytes_service_groups.specs.Registration.{head_bytes, registered
 use abstract_policy::state::Registration;
 use bytes_groups::place;
 use bytes_groups::quad::Quad;
-use power_policy_service::config::{Config, OptionMilliwatts, ReadMinimum};
+use power_policy_interface::capability::PowerCapability;
+use power_policy_service::config::Config;
 
 // 19 bytes by value.
 #[derive(Clone, Copy)]
@@ -20,92 +21,66 @@ pub struct Registered {
     pub figure: Quad,
 }
 
-// What reading a registration finds.
-#[derive(Clone, Copy)]
-pub enum ReadRegistration {
-    Refused,
-    Read(Registration),
-}
-
 // Bytes 1 to 19.
 pub fn registered_at(s: &[u8]) -> Registered
     ensures { result ≡ registered_at s.now 1 }
 {
-    let threshold = Quad::at(s, 3);
-    let unlimited = Quad::at(s, 7);
-    let limited = Quad::at(s, 11);
-    let figure = Quad::at(s, 16);
     Registered {
         ports: place::byte(s, 1, 0),
         chargers: place::byte(s, 1, 1),
-        threshold,
-        unlimited,
-        limited,
+        threshold: Quad::at(s, 3),
+        unlimited: Quad::at(s, 7),
+        limited: Quad::at(s, 11),
         presence: place::byte(s, 1, 14),
-        figure,
+        figure: Quad::at(s, 16),
     }
 }
 
 // The presence of a minimum.
-fn presence(m: OptionMilliwatts) -> u8
+fn presence(m: Option<u32>) -> u8
     ensures { result ≡ presence m }
 {
-    match m {
-        OptionMilliwatts::None => 0,
-        OptionMilliwatts::Some(_) => 1,
-    }
+    m.is_some() as u8
 }
 
 // The figure of a minimum, 0 for none.
-fn figure(m: OptionMilliwatts) -> u32
+fn figure(m: Option<u32>) -> u32
     ensures { result ≡ figure m }
 {
-    match m {
-        OptionMilliwatts::None => 0,
-        OptionMilliwatts::Some(n) => n,
-    }
+    m.unwrap_or(0)
 }
 
-pub fn registered_of(g: Registration) -> Registered
-    ensures { result ≡ registered g }
-{
-    let config = g.config;
-    let unlimited_power = config.provider_unlimited;
-    let limited_power = config.provider_limited;
-    let minimum = config.min_consumer_threshold_mw;
-    let threshold = Quad::of_number(config.limited_power_threshold_mw);
-    let unlimited = Quad::of_power(unlimited_power);
-    let limited = Quad::of_power(limited_power);
-    let figure = Quad::of_number(figure(minimum));
-    Registered {
-        ports: g.ports,
-        chargers: g.chargers,
-        threshold,
-        unlimited,
-        limited,
-        presence: presence(minimum),
-        figure,
+impl From<Registration> for Registered {
+    ghost from_gives = { λ g r. r ≡ registered g };
+
+    fn from(g: Registration) -> Registered {
+        let config = g.config;
+        let minimum = config.min_consumer_threshold_mw;
+        Registered {
+            ports: g.ports,
+            chargers: g.chargers,
+            threshold: Quad::from(config.limited_power_threshold_mw),
+            unlimited: Quad::from(config.provider_unlimited),
+            limited: Quad::from(config.provider_limited),
+            presence: presence(minimum),
+            figure: Quad::from(figure(minimum)),
+        }
     }
 }
 
 // A presence byte and a figure.
-fn read_minimum(presence: u8, figure: u32) -> ReadMinimum
+fn read_minimum(presence: u8, figure: u32) -> Option<Option<u32>>
     ensures { result ≡ minimum_read presence figure }
 {
     match presence {
-        0 => {
-            if figure == 0 {
-                ReadMinimum::Read(OptionMilliwatts::None)
-            } else {
-                ReadMinimum::Refused
-            }
-        }
-        1 => ReadMinimum::Read(OptionMilliwatts::Some(figure)),
-        _ => ReadMinimum::Refused,
+        0 if figure == 0 => Some(None),
+        1 => Some(Some(figure)),
+        _ => None,
     }
 }
 
 impl Registered {
+    // A method, as the library's to_le_bytes: with a From each call would name the array's length.
     pub fn bytes(self) -> [u8; 19]
         ensures { result ≡ registered_bytes self }
     {
@@ -137,26 +112,16 @@ impl Registered {
     }
 
     // The registration; refused for bytes that none is written as.
-    pub fn read(self) -> ReadRegistration
+    pub fn read(self) -> Option<Registration>
         ensures { result ≡ registration_from self }
     {
-        let t = self.threshold;
-        let u = self.unlimited;
-        let l = self.limited;
-        let f = self.figure;
-        let ReadMinimum::Read(min_consumer_threshold_mw) = read_minimum(self.presence, f.number())
-        else {
-            return ReadRegistration::Refused;
-        };
-        let provider_unlimited = u.power();
-        let provider_limited = l.power();
         let config = Config {
-            limited_power_threshold_mw: t.number(),
-            provider_unlimited,
-            provider_limited,
-            min_consumer_threshold_mw,
+            limited_power_threshold_mw: u32::from(self.threshold),
+            provider_unlimited: PowerCapability::from(self.unlimited),
+            provider_limited: PowerCapability::from(self.limited),
+            min_consumer_threshold_mw: read_minimum(self.presence, u32::from(self.figure))?,
         };
-        ReadRegistration::Read(Registration {
+        Some(Registration {
             config,
             ports: self.ports,
             chargers: self.chargers,
@@ -168,10 +133,7 @@ impl Registered {
 pub fn put_head(image: &mut [u8], g: Registration, number: u32)
     ensures { image.new ≡ sets image.old 0 (head_bytes g number) }
 {
-    let a = registered_of(g).bytes();
-    let n = Quad::of_number(number).bytes();
-    let first = [1u8];
-    place::put(image, 0, &first);
-    place::put(image, 1, &a);
-    place::put(image, 20, &n);
+    place::put(image, 0, &[1]);
+    place::put(image, 1, &Registered::from(g).bytes());
+    place::put(image, 20, &Quad::from(number).bytes());
 }

@@ -6,61 +6,37 @@ ghost use Rattle.bytes_service_groups.specs.State.{held_bytes, power_byte, power
 
 use abstract_policy::state::InternalState;
 use bytes_groups::place;
-use bytes_groups::shown::{ReadDisplay, Shown};
+use bytes_groups::shown::Shown;
 use power_policy_service::provider::PowerState;
-
-// What reading a power state finds.
-#[derive(Clone, Copy)]
-pub enum ReadPowerState {
-    Refused,
-    Read(PowerState),
-}
-
-// What reading the state finds.
-#[derive(Clone, Copy)]
-pub enum ReadState {
-    Refused,
-    Read(InternalState),
-}
 
 // 0 Unlimited, 1 Limited.
 fn power_byte(p: PowerState) -> u8
     ensures { result ≡ power_byte p }
 {
-    match p {
-        PowerState::Unlimited => 0,
-        PowerState::Limited => 1,
-    }
+    p as u8
 }
 
-fn power_state(b: u8) -> ReadPowerState
+// The power state of an image's byte.
+fn power_state(b: u8) -> Option<PowerState>
     ensures { result ≡ power_state_from b }
 {
     match b {
-        0 => ReadPowerState::Read(PowerState::Unlimited),
-        1 => ReadPowerState::Read(PowerState::Limited),
-        _ => ReadPowerState::Refused,
+        0 => Some(PowerState::Unlimited),
+        1 => Some(PowerState::Limited),
+        _ => None,
     }
 }
 
 // Bytes 24 to 35; refused for bytes that no state is written as.
-pub fn read_state(s: &[u8]) -> ReadState
+pub fn read_state(s: &[u8]) -> Option<InternalState>
     ensures { result ≡ state_from (shown_at s.now 24) (get_or s.now 35 0) }
 {
-    let ReadDisplay::Read(d) = Shown::at(s, 24).display() else {
-        return ReadState::Refused;
-    };
-    let ReadPowerState::Read(current_provider_state) = power_state(place::byte(s, 35, 0)) else {
-        return ReadState::Refused;
-    };
-    let current_consumer_state = d.consumer;
-    let unconstrained = d.unconstrained;
-    let connected_providers = d.providers;
-    ReadState::Read(InternalState {
-        current_consumer_state,
-        current_provider_state,
-        unconstrained,
-        connected_providers,
+    let d = Shown::at(s, 24).display()?;
+    Some(InternalState {
+        current_consumer_state: d.consumer,
+        current_provider_state: power_state(place::byte(s, 35, 0))?,
+        unconstrained: d.unconstrained,
+        connected_providers: d.providers,
     })
 }
 
@@ -68,9 +44,6 @@ pub fn read_state(s: &[u8]) -> ReadState
 pub fn put_held(image: &mut [u8], s: InternalState, orders: u8)
     ensures { image.new ≡ sets image.old 24 (held_bytes s orders) }
 {
-    let power = s.current_provider_state;
-    let a = Shown::of_display(s.display()).bytes();
-    let b = [power_byte(power), orders];
-    place::put(image, 24, &a);
-    place::put(image, 35, &b);
+    place::put(image, 24, &Shown::from(s.display()).bytes());
+    place::put(image, 35, &[power_byte(s.current_provider_state), orders]);
 }

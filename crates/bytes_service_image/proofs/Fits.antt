@@ -1,5 +1,6 @@
 -- Figures of 16 bits, as a test and as bounds.
 -- Assumes nothing.
+use Rattle.std.specs.Prelude.{None, Option, Some}
 use mathlib.Core.Path.{◌≡◌}
 use mathlib.Core.Bool.{true}
 use Prim.Native.Nat.{ℕ, ◌≤◌}
@@ -8,7 +9,7 @@ use lib.Dec.{leb}
 use borrow.Author.Tests.{le-leb, leb-true}
 use Rattle.power_policy_interface.specs.Capability.{capability_fits}
 use Rattle.power_policy_interface.specs.declared.capability.PowerCapability.{PowerCapability}
-use Rattle.interface_display.specs.declared.OptionAvailableConsumer.{OptionAvailableConsumer}
+use Rattle.interface_display.specs.declared.AvailableConsumer.{AvailableConsumer}
 use Rattle.power_policy_interface.proofs.Conjunction.{and_left, and_right}
 use Rattle.bytes_groups.proofs.Quads.{Within}
 use Rattle.bytes_groups.proofs.Consumers.{ConsumerWithin}
@@ -28,12 +29,12 @@ within c e =
     let a = leb-true c.current_ma 65535 (and_right (leb c.voltage_mv 65535) (leb c.current_ma 65535) e) in
     record { mv = omega arith; ma = omega arith }
 
-pub consumer_typed : (c : OptionAvailableConsumer) → ConsumerWithin c → ConsumerTyped c
-consumer_typed OptionAvailableConsumer.None h = tt
-consumer_typed (OptionAvailableConsumer.Some c) h = fits c.consumer_power_capability.capability h.1
+pub consumer_typed : (c : Option AvailableConsumer) → ConsumerWithin c → ConsumerTyped c
+consumer_typed None h = tt
+consumer_typed (Some c) h = fits c.consumer_power_capability.capability h.1
 
-pub consumer_within : (ports : ℕ) (c : OptionAvailableConsumer) → ports ≤ 16 → consumer_fits ports c ≡ true → ConsumerTyped c → ConsumerWithin c
-consumer_within ports OptionAvailableConsumer.None h e t = tt
-consumer_within ports (OptionAvailableConsumer.Some c) h e t =
+pub consumer_within : (ports : ℕ) (c : Option AvailableConsumer) → ports ≤ 16 → consumer_fits ports c ≡ true → ConsumerTyped c → ConsumerWithin c
+consumer_within ports None h e t = tt
+consumer_within ports (Some c) h e t =
     let k = ltb-true c.psu ports e in
     (omega arith, within c.consumer_power_capability.capability t)

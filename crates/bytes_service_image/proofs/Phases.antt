@@ -1,5 +1,6 @@
 -- A phase has one encoding: the kind decides, and each kind's bytes are those of its parts.
 -- Assumes nothing.
+use Rattle.std.specs.Prelude.{Err, None, Ok, Option, Result, Some}
 use mathlib.Core.Path.{◌≡◌, refl, ap, sym, subst, ◌∙◌}
 use mathlib.Core.Bool.{Bool, true, false, cond, ◌&&◌}
 use mathlib.Core.List.{List}
@@ -12,14 +13,10 @@ use Rattle.power_policy_interface.specs.Capability.{disconnect_byte, disconnect_
 use Rattle.power_policy_interface.specs.Psu.{kind_number, answer_byte, answer_from, error_byte, mismatch_of, expected_byte, actual_byte}
 use Rattle.power_policy_interface.specs.declared.capability.DisconnectFlags.{DisconnectFlags}
 use Rattle.power_policy_interface.specs.declared.capability.DisconnectReason.{DisconnectReason}
-use Rattle.power_policy_interface.specs.declared.capability.OptionConsumerPowerCapability.{OptionConsumerPowerCapability}
-use Rattle.power_policy_interface.specs.declared.capability.OptionDisconnectFlags.{OptionDisconnectFlags}
-use Rattle.power_policy_interface.specs.declared.capability.OptionDisconnectReason.{OptionDisconnectReason}
-use Rattle.power_policy_interface.specs.declared.capability.OptionProviderPowerCapability.{OptionProviderPowerCapability}
+use Rattle.power_policy_interface.specs.declared.capability.ConsumerPowerCapability.{ConsumerPowerCapability}
+use Rattle.power_policy_interface.specs.declared.capability.ProviderPowerCapability.{ProviderPowerCapability}
+use Rattle.power_policy_interface.specs.declared.psu.Mismatch.{Mismatch}
 use Rattle.power_policy_interface.specs.declared.psu.Error.{Error}
-use Rattle.power_policy_interface.specs.declared.psu.OptionMismatch.{OptionMismatch}
-use Rattle.power_policy_interface.specs.declared.psu.OptionResult.{OptionResult}
-use Rattle.power_policy_interface.specs.declared.psu.Result.{Result}
 use Rattle.power_policy_interface.specs.declared.psu.StateKind.{StateKind}
 use Rattle.power_policy_interface.proofs.OneByte.{reason_read_write, reason_write_read, answer_write_read}
 use Rattle.interface_records.specs.Group.{empty_group, consumer_from, provider_from}
@@ -27,7 +24,6 @@ use Rattle.interface_records.specs.Row.{AllBytes}
 use Rattle.interface_records.specs.declared.group.Group.{Group}
 use Rattle.interface_records.proofs.Groups.{consumer_back, consumer_written, provider_back, provider_written}
 use Rattle.interface_display.specs.declared.AvailableConsumer.{AvailableConsumer}
-use Rattle.interface_display.specs.declared.OptionAvailableConsumer.{OptionAvailableConsumer}
 use Rattle.machine_state.specs.declared.phase.Leaver.{Leaver}
 use Rattle.machine_state.specs.declared.phase.Phase.{Phase}
 use Rattle.machine_state.specs.declared.phase.Stage.{Stage}
@@ -36,9 +32,6 @@ use Rattle.bytes_groups.specs.Tagged.{no_group}
 use Rattle.bytes_groups.proofs.Places.{Below, one}
 use Rattle.bytes_groups.proofs.Consumers.{GroupBytes, group_bytes_lem, empty_bytes, consumer_bytes_lem, provider_bytes, consumer_within, provider_within, no_group_lem}
 use Rattle.bytes_service_groups.specs.Phase.{standing_at, standing_bytes, mismatch_in, leaver_byte, stage_byte, stage_charger, contract_of, standing, kind_from, mismatch_with, invalid_from, result_from, closed_with, leaving_with, new_with, new_from, leaver_from, switching_with, stage_from, connecting_with, providing_with, phases, phase_from}
-use Rattle.bytes_service_groups.specs.declared.phase.ReadKind.{ReadKind}
-use Rattle.bytes_service_groups.specs.declared.phase.ReadPhase.{ReadPhase}
-use Rattle.bytes_service_groups.specs.declared.phase.ReadStage.{ReadStage}
 use Rattle.bytes_service_groups.specs.declared.phase.Standing.{Standing}
 use Rattle.bytes_service_image.specs.Typed.{PhaseTyped}
 use Rattle.bytes_service_image.specs.WellFormed.{mismatch_fits, error_fits, result_fits, leaver_fits, stage_fits, phase_fits}
@@ -69,19 +62,19 @@ standing_bytes_lem g h = one h.kind (one h.a (one h.b (one h.c (group_bytes_lem 
 
 -- small numbers
 
-reason_cases : (r : OptionDisconnectReason) → reason_byte r ≤ 6
-reason_cases OptionDisconnectReason.None = omega arith
-reason_cases (OptionDisconnectReason.Some DisconnectReason.Detached) = omega arith
-reason_cases (OptionDisconnectReason.Some DisconnectReason.Switching) = omega arith
-reason_cases (OptionDisconnectReason.Some DisconnectReason.AutoRenegotiation) = omega arith
-reason_cases (OptionDisconnectReason.Some DisconnectReason.ManualRenegotiation) = omega arith
-reason_cases (OptionDisconnectReason.Some DisconnectReason.RoleSwap) = omega arith
-reason_cases (OptionDisconnectReason.Some DisconnectReason.Reset) = omega arith
+reason_cases : (r : Option DisconnectReason) → reason_byte r ≤ 6
+reason_cases None = omega arith
+reason_cases (Some DisconnectReason.Detached) = omega arith
+reason_cases (Some DisconnectReason.Switching) = omega arith
+reason_cases (Some DisconnectReason.AutoRenegotiation) = omega arith
+reason_cases (Some DisconnectReason.ManualRenegotiation) = omega arith
+reason_cases (Some DisconnectReason.RoleSwap) = omega arith
+reason_cases (Some DisconnectReason.Reset) = omega arith
 
 pub reason_lt : (f : DisconnectFlags) → disconnect_byte f < 256
 reason_lt f = omega (arith, reason_cases f.reason)
 
-kind_back : (k : StateKind) → kind_from (kind_number k) ≡ ReadKind.Read k
+kind_back : (k : StateKind) → kind_from (kind_number k) ≡ Some k
 kind_back StateKind.Detached = refl
 kind_back StateKind.Idle = refl
 kind_back StateKind.ConnectedProvider = refl
@@ -94,30 +87,30 @@ kind_lt StateKind.ConnectedProvider = omega arith
 kind_lt StateKind.ConnectedConsumer = omega arith
 
 -- the number of a kind that was read, whatever for a refusal
-kind_byte : ReadKind → ℕ
-kind_byte ReadKind.Refused = 4
-kind_byte (ReadKind.Read k) = kind_number k
+kind_byte : Option StateKind → ℕ
+kind_byte None = 4
+kind_byte (Some k) = kind_number k
 
-kind_written : (b : ℕ) (k : StateKind) → kind_from b ≡ ReadKind.Read k → b ≡ kind_number k
+kind_written : (b : ℕ) (k : StateKind) → kind_from b ≡ Some k → b ≡ kind_number k
 unfolding kind_byte
 kind_written zero k e = ap kind_byte e
 kind_written (suc zero) k e = ap kind_byte e
 kind_written (suc (suc zero)) k e = ap kind_byte e
 kind_written (suc (suc (suc zero))) k e = ap kind_byte e
-kind_written (suc (suc (suc (suc b)))) k e = absurd (let z : ◌≡◌ {A = ℕ} 0 1 = cc in omega arith)
+kind_written (suc (suc (suc (suc b)))) k e = absurd (cc)
 
 -- answers
 
-mismatch_back : (m : OptionMismatch) → mismatch_fits m ≡ true
-    → invalid_from (expected_byte m) (actual_byte m) ≡ OptionResult.Some (Result.Err (Error.InvalidState m))
-mismatch_back OptionMismatch.None h = refl
-mismatch_back (OptionMismatch.Some m) h =
+mismatch_back : (m : Option Mismatch) → mismatch_fits m ≡ true
+    → invalid_from (expected_byte m) (actual_byte m) ≡ Some (Err (Error.InvalidState m))
+mismatch_back None h = refl
+mismatch_back (Some m) h =
     let k = ltb-true 0 m.expected (and_left (ltb 0 m.expected) (leb m.expected 15) h) in
     let n : eqb m.expected 0 ≡ false = ne_eqb m.expected 0 (λ e. omega arith) in
     rw (n, kind_back m.actual)
 
 error_back : (e : Error) → error_fits e ≡ true
-    → result_from (error_byte e) (expected_byte (mismatch_of e)) (actual_byte (mismatch_of e)) ≡ OptionResult.Some (Result.Err e)
+    → result_from (error_byte e) (expected_byte (mismatch_of e)) (actual_byte (mismatch_of e)) ≡ Some (Err e)
 error_back Error.InvalidDevice h = refl
 error_back Error.CannotProvide h = refl
 error_back Error.CannotConsume h = refl
@@ -129,10 +122,10 @@ error_back Error.Bus h = refl
 error_back Error.Charger h = refl
 error_back Error.Failed h = refl
 
-result_back : (r : Result) → result_fits r ≡ true
-    → result_from (answer_byte r) (expected_byte (mismatch_in r)) (actual_byte (mismatch_in r)) ≡ OptionResult.Some r
-result_back Result.Ok h = refl
-result_back (Result.Err e) h = error_back e h
+result_back : (r : Result (Unit {0}) Error) → result_fits r ≡ true
+    → result_from (answer_byte r) (expected_byte (mismatch_in r)) (actual_byte (mismatch_in r)) ≡ Some r
+result_back (Ok tt) h = refl
+result_back (Err e) h = error_back e h
 
 error_lt : (e : Error) → error_byte e ≤ 10
 error_lt Error.InvalidDevice = omega arith
@@ -146,9 +139,9 @@ error_lt Error.Bus = omega arith
 error_lt Error.Charger = omega arith
 error_lt Error.Failed = omega arith
 
-answer_lt : (r : Result) → answer_byte r ≤ 10
-answer_lt Result.Ok = omega arith
-answer_lt (Result.Err e) = error_lt e
+answer_lt : (r : Result (Unit {0}) Error) → answer_byte r ≤ 10
+answer_lt (Ok tt) = omega arith
+answer_lt (Err e) = error_lt e
 
 mismatch_of_fits : (e : Error) → error_fits e ≡ true → mismatch_fits (mismatch_of e) ≡ true
 mismatch_of_fits Error.InvalidDevice h = refl
@@ -162,57 +155,57 @@ mismatch_of_fits Error.Bus h = refl
 mismatch_of_fits Error.Charger h = refl
 mismatch_of_fits Error.Failed h = refl
 
-mismatch_in_fits : (r : Result) → result_fits r ≡ true → mismatch_fits (mismatch_in r) ≡ true
-mismatch_in_fits Result.Ok h = refl
-mismatch_in_fits (Result.Err e) h = mismatch_of_fits e h
+mismatch_in_fits : (r : Result (Unit {0}) Error) → result_fits r ≡ true → mismatch_fits (mismatch_in r) ≡ true
+mismatch_in_fits (Ok tt) h = refl
+mismatch_in_fits (Err e) h = mismatch_of_fits e h
 
-expected_lt : (m : OptionMismatch) → mismatch_fits m ≡ true → expected_byte m < 256
-expected_lt OptionMismatch.None h = omega arith
-expected_lt (OptionMismatch.Some m) h =
+expected_lt : (m : Option Mismatch) → mismatch_fits m ≡ true → expected_byte m < 256
+expected_lt None h = omega arith
+expected_lt (Some m) h =
     let k = leb-true m.expected 15 (and_right (ltb 0 m.expected) (leb m.expected 15) h) in
     omega arith
 
-actual_lt : (m : OptionMismatch) → actual_byte m < 256
-actual_lt OptionMismatch.None = omega arith
-actual_lt (OptionMismatch.Some m) = kind_lt m.actual
+actual_lt : (m : Option Mismatch) → actual_byte m < 256
+actual_lt None = omega arith
+actual_lt (Some m) = kind_lt m.actual
 
 -- the three bytes that an answer is read from
-pub record Answered (a b c : ℕ) (r : Result) : Type 0 where
+pub record Answered (a b c : ℕ) (r : Result (Unit {0}) Error) : Type 0 where
   pub answer : a ≡ answer_byte r
   pub expected : b ≡ expected_byte (mismatch_in r)
   pub actual : c ≡ actual_byte (mismatch_in r)
 
-carries : (b c : ℕ) (r : Result) (k : ReadKind) → kind_from c ≡ k → mismatch_with b k ≡ OptionResult.Some r → Answered 4 b c r
-carries b c r ReadKind.Refused e q = absurd (let z : ◌≡◌ {A = ℕ} 0 1 = cc in omega arith)
-carries b c r (ReadKind.Read k) e q =
-    let m : Result.Err (Error.InvalidState (OptionMismatch.Some (record { expected = b; actual = k }))) ≡ r = cc in
-    subst (λ (x : Result). Answered 4 b c x) m (record { answer = refl; expected = refl; actual = kind_written c k e })
+carries : (b c : ℕ) (r : Result (Unit {0}) Error) (k : Option StateKind) → kind_from c ≡ k → mismatch_with b k ≡ Some r → Answered 4 b c r
+carries b c r None e q = absurd (cc)
+carries b c r (Some k) e q =
+    let m : Err (Error.InvalidState (Some (record { expected = b; actual = k }))) ≡ r = cc in
+    subst (λ (x : Result (Unit {0}) Error). Answered 4 b c x) m (record { answer = refl; expected = refl; actual = kind_written c k e })
 
-carries_none : (c : ℕ) (r : Result) (t : Bool) → eqb c 0 ≡ t
-    → cond t (OptionResult.Some (Result.Err (Error.InvalidState OptionMismatch.None))) OptionResult.None ≡ OptionResult.Some r
+carries_none : (c : ℕ) (r : Result (Unit {0}) Error) (t : Bool) → eqb c 0 ≡ t
+    → cond t (Some (Err (Error.InvalidState None))) None ≡ Some r
     → Answered 4 0 c r
 carries_none c r true e q =
-    let m : Result.Err (Error.InvalidState OptionMismatch.None) ≡ r = cc in
-    subst (λ (x : Result). Answered 4 0 c x) m (record { answer = refl; expected = refl; actual = eqb-true c 0 e })
-carries_none c r false e q = absurd (let z : ◌≡◌ {A = ℕ} 0 1 = cc in omega arith)
+    let m : Err (Error.InvalidState None) ≡ r = cc in
+    subst (λ (x : Result (Unit {0}) Error). Answered 4 0 c x) m (record { answer = refl; expected = refl; actual = eqb-true c 0 e })
+carries_none c r false e q = absurd (cc)
 
-invalid_tested : (b c : ℕ) (r : Result) (t : Bool) → eqb b 0 ≡ t
-    → cond t (cond (eqb c 0) (OptionResult.Some (Result.Err (Error.InvalidState OptionMismatch.None))) OptionResult.None) (mismatch_with b (kind_from c))
-    ≡ OptionResult.Some r
+invalid_tested : (b c : ℕ) (r : Result (Unit {0}) Error) (t : Bool) → eqb b 0 ≡ t
+    → cond t (cond (eqb c 0) (Some (Err (Error.InvalidState None))) None) (mismatch_with b (kind_from c))
+    ≡ Some r
     → Answered 4 b c r
 invalid_tested b c r true e q = subst (λ (x : ℕ). Answered 4 x c r) (sym (eqb-true b 0 e)) (carries_none c r (eqb c 0) refl q)
 invalid_tested b c r false e q = carries b c r (kind_from c) refl q
 
-invalid_read : (b c : ℕ) (r : Result) → invalid_from b c ≡ OptionResult.Some r → Answered 4 b c r
+invalid_read : (b c : ℕ) (r : Result (Unit {0}) Error) → invalid_from b c ≡ Some r → Answered 4 b c r
 invalid_read b c r q = invalid_tested b c r (eqb b 0) refl q
 
 -- what an answer that was read carries, nothing for a refusal
-carried : OptionResult → OptionMismatch
-carried OptionResult.None = OptionMismatch.None
-carried (OptionResult.Some r) = mismatch_in r
+carried : Option (Result (Unit {0}) Error) → Option Mismatch
+carried None = None
+carried (Some r) = mismatch_in r
 
 -- an answer that is read from its byte alone carries nothing
-carried_none : (a : ℕ) → carried (answer_from a) ≡ OptionMismatch.None
+carried_none : (a : ℕ) → carried (answer_from a) ≡ None
 unfolding carried
 carried_none zero = refl
 carried_none (suc zero) = refl
@@ -227,11 +220,11 @@ carried_none (suc (suc (suc (suc (suc (suc (suc (suc (suc zero))))))))) = refl
 carried_none (suc (suc (suc (suc (suc (suc (suc (suc (suc (suc zero)))))))))) = refl
 carried_none (suc (suc (suc (suc (suc (suc (suc (suc (suc (suc (suc a))))))))))) = refl
 
-bare_answer : (a : ℕ) (r : Result) → answer_from a ≡ OptionResult.Some r → mismatch_in r ≡ OptionMismatch.None
+bare_answer : (a : ℕ) (r : Result (Unit {0}) Error) → answer_from a ≡ Some r → mismatch_in r ≡ None
 unfolding carried
 bare_answer a r e = sym (ap carried e) ∙ carried_none a
 
-bare_read : (a b c : ℕ) (r : Result) (t : Bool) → eqb (b + c) 0 ≡ t → cond t (answer_from a) OptionResult.None ≡ OptionResult.Some r
+bare_read : (a b c : ℕ) (r : Result (Unit {0}) Error) (t : Bool) → eqb (b + c) 0 ≡ t → cond t (answer_from a) None ≡ Some r
     → Answered a b c r
 bare_read a b c r true e q =
     let m = bare_answer a r q in
@@ -243,14 +236,14 @@ bare_read a b c r true e q =
       expected = x ∙ sym (ap expected_byte m);
       actual = y ∙ sym (ap actual_byte m);
     }
-bare_read a b c r false e q = absurd (let z : ◌≡◌ {A = ℕ} 0 1 = cc in omega arith)
+bare_read a b c r false e q = absurd (cc)
 
-result_tested : (a b c : ℕ) (r : Result) (t : Bool) → eqb a 4 ≡ t
-    → cond t (invalid_from b c) (cond (eqb (b + c) 0) (answer_from a) OptionResult.None) ≡ OptionResult.Some r → Answered a b c r
+result_tested : (a b c : ℕ) (r : Result (Unit {0}) Error) (t : Bool) → eqb a 4 ≡ t
+    → cond t (invalid_from b c) (cond (eqb (b + c) 0) (answer_from a) None) ≡ Some r → Answered a b c r
 result_tested a b c r true e q = subst (λ (x : ℕ). Answered x b c r) (sym (eqb-true a 4 e)) (invalid_read b c r q)
 result_tested a b c r false e q = bare_read a b c r (eqb (b + c) 0) refl q
 
-result_read : (a b c : ℕ) (r : Result) → result_from a b c ≡ OptionResult.Some r → Answered a b c r
+result_read : (a b c : ℕ) (r : Result (Unit {0}) Error) → result_from a b c ≡ Some r → Answered a b c r
 result_read a b c r q = result_tested a b c r (eqb a 4) refl q
 
 -- who leaves
@@ -283,7 +276,7 @@ leaver_written (suc i) h = sym (ap leaver_byte (charger_from_lem i) ∙ charger_
 
 -- stages
 
-stage_back : (s : Stage) → stage_from (stage_byte s) (stage_charger s) ≡ ReadStage.Read s
+stage_back : (s : Stage) → stage_from (stage_byte s) (stage_charger s) ≡ Some s
 stage_back Stage.Psu = refl
 stage_back Stage.Settling = refl
 stage_back (Stage.Readying i) = refl
@@ -309,49 +302,49 @@ pub record Staged (a b : ℕ) (s : Stage) : Type 0 where
   pub charger : b ≡ stage_charger s
 
 bare_stage : (a b : ℕ) (x s : Stage) (t : Bool) → eqb b 0 ≡ t → a ≡ stage_byte x → 0 ≡ stage_charger x
-    → cond t (ReadStage.Read x) ReadStage.Refused ≡ ReadStage.Read s → Staged a b s
+    → cond t (Some x) None ≡ Some s → Staged a b s
 bare_stage a b x s true e n k q =
     let m : x ≡ s = cc in
     record { number = n ∙ ap stage_byte m; charger = eqb-true b 0 e ∙ (k ∙ ap stage_charger m) }
-bare_stage a b x s false e n k q = absurd (let z : ◌≡◌ {A = ℕ} 0 1 = cc in omega arith)
+bare_stage a b x s false e n k q = absurd (cc)
 
-a_stage : (a b : ℕ) (x s : Stage) → a ≡ stage_byte x → b ≡ stage_charger x → ReadStage.Read x ≡ ReadStage.Read s → Staged a b s
+a_stage : (a b : ℕ) (x s : Stage) → a ≡ stage_byte x → b ≡ stage_charger x → Some x ≡ Some s → Staged a b s
 a_stage a b x s n k q =
     let m : x ≡ s = cc in
     record { number = n ∙ ap stage_byte m; charger = k ∙ ap stage_charger m }
 
-stage_read : (a b : ℕ) (s : Stage) → stage_from a b ≡ ReadStage.Read s → Staged a b s
+stage_read : (a b : ℕ) (s : Stage) → stage_from a b ≡ Some s → Staged a b s
 stage_read zero b s q = bare_stage 0 b Stage.Psu s (eqb b 0) refl refl refl q
 stage_read (suc zero) b s q = bare_stage 1 b Stage.Settling s (eqb b 0) refl refl refl q
 stage_read (suc (suc zero)) b s q = a_stage 2 b (Stage.Readying b) s refl refl q
 stage_read (suc (suc (suc zero))) b s q = a_stage 3 b (Stage.Initializing b) s refl refl q
 stage_read (suc (suc (suc (suc zero)))) b s q = a_stage 4 b (Stage.Attaching b) s refl refl q
-stage_read (suc (suc (suc (suc (suc a))))) b s q = absurd (let z : ◌≡◌ {A = ℕ} 0 1 = cc in omega arith)
+stage_read (suc (suc (suc (suc (suc a))))) b s q = absurd (cc)
 
 -- the new consumer
 
-new_back : (new : AvailableConsumer) → new_from (contract_of new) ≡ OptionAvailableConsumer.Some new
+new_back : (new : AvailableConsumer) → new_from (contract_of new) ≡ Some new
 new_back new = ap (new_with new.psu) (consumer_back new.psu new.consumer_power_capability)
 
 pub record Contracted (g : Group) (new : AvailableConsumer) : Type 0 where
   pub written : g ≡ contract_of new
   pub typed : capability_fits new.consumer_power_capability.capability ≡ true
 
-new_told : (g : Group) (new : AvailableConsumer) (o : OptionConsumerPowerCapability) → consumer_from g ≡ o → GroupBytes g
-    → new_with g.number o ≡ OptionAvailableConsumer.Some new → Contracted g new
-new_told g new OptionConsumerPowerCapability.None e h q = absurd (let z : ◌≡◌ {A = ℕ} 0 1 = cc in omega arith)
-new_told g new (OptionConsumerPowerCapability.Some c) e h q =
+new_told : (g : Group) (new : AvailableConsumer) (o : Option ConsumerPowerCapability) → consumer_from g ≡ o → GroupBytes g
+    → new_with g.number o ≡ Some new → Contracted g new
+new_told g new None e h q = absurd (cc)
+new_told g new (Some c) e h q =
     let k : record { psu = g.number; consumer_power_capability = c } ≡ new = cc in
     subst (λ (x : AvailableConsumer). Contracted g x) k
     (record { written = consumer_written g c h.digit e; typed = fits c.capability (consumer_within g c h.digit e) })
 
-new_read : (g : Group) (new : AvailableConsumer) → GroupBytes g → new_from g ≡ OptionAvailableConsumer.Some new → Contracted g new
+new_read : (g : Group) (new : AvailableConsumer) → GroupBytes g → new_from g ≡ Some new → Contracted g new
 new_read g new h q = new_told g new (consumer_from g) refl h q
 
 -- reading what was written
 
 pub phase_back : (ports chargers : ℕ) (p : Phase) → chargers ≤ 8 → phase_fits ports chargers p ≡ true
-    → phase_from (standing p) ≡ ReadPhase.Read p
+    → phase_from (standing p) ≡ Some p
 phase_back ports chargers (Phase.Closed r) h e = ap closed_with (result_back r e)
 phase_back ports chargers (Phase.Leaving i p f) h e = ap (leaving_with i p) (reason_read_write f)
 phase_back ports chargers (Phase.Switching l old f new) h e =
@@ -414,10 +407,10 @@ pub record Read (g : Standing) (p : Phase) : Type 0 where
 abbrev of : ℕ → ℕ → ℕ → ℕ → Group → Standing
 of kind a b c contract = record { kind = kind; a = a; b = b; c = c; contract = contract }
 
-closed_with_lem : (g : Standing) (p : Phase) (o : OptionResult) → result_from g.a g.b g.c ≡ o → g.contract ≡ empty_group 0
-    → closed_with o ≡ ReadPhase.Read p → Read (of 0 g.a g.b g.c g.contract) p
-closed_with_lem g p OptionResult.None e k q = absurd (let z : ◌≡◌ {A = ℕ} 0 1 = cc in omega arith)
-closed_with_lem g p (OptionResult.Some r) e k q =
+closed_with_lem : (g : Standing) (p : Phase) (o : Option (Result (Unit {0}) Error)) → result_from g.a g.b g.c ≡ o → g.contract ≡ empty_group 0
+    → closed_with o ≡ Some p → Read (of 0 g.a g.b g.c g.contract) p
+closed_with_lem g p None e k q = absurd (cc)
+closed_with_lem g p (Some r) e k q =
     let m : Phase.Closed r ≡ p = cc in
     let w = result_read g.a g.b g.c r e in
     let x = w.answer in
@@ -426,32 +419,32 @@ closed_with_lem g p (OptionResult.Some r) e k q =
     subst (λ (v : Phase). Read (of 0 g.a g.b g.c g.contract) v) m (record { written = λ i. of 0 (x i) (y i) (z i) (k i); typed = tt })
 
 closed_read : (g : Standing) (p : Phase) (t : Bool) → no_group g.contract ≡ t
-    → cond t (closed_with (result_from g.a g.b g.c)) ReadPhase.Refused ≡ ReadPhase.Read p
+    → cond t (closed_with (result_from g.a g.b g.c)) None ≡ Some p
     → Read (of 0 g.a g.b g.c g.contract) p
 closed_read g p true e q = closed_with_lem g p (result_from g.a g.b g.c) refl (no_group_lem g.contract e) q
-closed_read g p false e q = absurd (let z : ◌≡◌ {A = ℕ} 0 1 = cc in omega arith)
+closed_read g p false e q = absurd (cc)
 
-leaving_with_lem : (g : Standing) (p : Phase) (o : OptionDisconnectFlags) → disconnect_from g.c ≡ o → g.contract ≡ empty_group 0
-    → leaving_with g.a g.b o ≡ ReadPhase.Read p → Read (of 1 g.a g.b g.c g.contract) p
-leaving_with_lem g p OptionDisconnectFlags.None e k q = absurd (let z : ◌≡◌ {A = ℕ} 0 1 = cc in omega arith)
-leaving_with_lem g p (OptionDisconnectFlags.Some f) e k q =
+leaving_with_lem : (g : Standing) (p : Phase) (o : Option DisconnectFlags) → disconnect_from g.c ≡ o → g.contract ≡ empty_group 0
+    → leaving_with g.a g.b o ≡ Some p → Read (of 1 g.a g.b g.c g.contract) p
+leaving_with_lem g p None e k q = absurd (cc)
+leaving_with_lem g p (Some f) e k q =
     let m : Phase.Leaving g.a g.b f ≡ p = cc in
     let z = reason_write_read g.c f e in
     subst (λ (v : Phase). Read (of 1 g.a g.b g.c g.contract) v) m (record { written = λ i. of 1 g.a g.b (z i) (k i); typed = tt })
 
 leaving_read : (g : Standing) (p : Phase) (t : Bool) → no_group g.contract ≡ t
-    → cond t (leaving_with g.a g.b (disconnect_from g.c)) ReadPhase.Refused ≡ ReadPhase.Read p
+    → cond t (leaving_with g.a g.b (disconnect_from g.c)) None ≡ Some p
     → Read (of 1 g.a g.b g.c g.contract) p
 leaving_read g p true e q = leaving_with_lem g p (disconnect_from g.c) refl (no_group_lem g.contract e) q
-leaving_read g p false e q = absurd (let z : ◌≡◌ {A = ℕ} 0 1 = cc in omega arith)
+leaving_read g p false e q = absurd (cc)
 
-switching_with_lem : (g : Standing) (p : Phase) (o : OptionDisconnectFlags) (n : OptionAvailableConsumer) → disconnect_from g.c ≡ o
-    → new_from g.contract ≡ n → StandingBytes g → switching_with (leaver_from g.a) g.b o n ≡ ReadPhase.Read p
+switching_with_lem : (g : Standing) (p : Phase) (o : Option DisconnectFlags) (n : Option AvailableConsumer) → disconnect_from g.c ≡ o
+    → new_from g.contract ≡ n → StandingBytes g → switching_with (leaver_from g.a) g.b o n ≡ Some p
     → Read (of 2 g.a g.b g.c g.contract) p
-switching_with_lem g p OptionDisconnectFlags.None n e k h q = absurd (let z : ◌≡◌ {A = ℕ} 0 1 = cc in omega arith)
-switching_with_lem g p (OptionDisconnectFlags.Some f) OptionAvailableConsumer.None e k h q =
-    absurd (let z : ◌≡◌ {A = ℕ} 0 1 = cc in omega arith)
-switching_with_lem g p (OptionDisconnectFlags.Some f) (OptionAvailableConsumer.Some new) e k h q =
+switching_with_lem g p None n e k h q = absurd (cc)
+switching_with_lem g p (Some f) None e k h q =
+    absurd (cc)
+switching_with_lem g p (Some f) (Some new) e k h q =
     let m : Phase.Switching (leaver_from g.a) g.b f new ≡ p = cc in
     let x = leaver_written g.a h.a in
     let z = reason_write_read g.c f e in
@@ -460,13 +453,13 @@ switching_with_lem g p (OptionDisconnectFlags.Some f) (OptionAvailableConsumer.S
     subst (λ (y : Phase). Read (of 2 g.a g.b g.c g.contract) y) m
     (record { written = λ i. of 2 (x i) g.b (z i) (v i); typed = w.typed })
 
-connecting_with_lem : (g : Standing) (p : Phase) (o : ReadStage) (n : OptionAvailableConsumer) → stage_from g.a g.b ≡ o
-    → new_from g.contract ≡ n → g.c ≡ 0 → StandingBytes g → connecting_with o n ≡ ReadPhase.Read p
+connecting_with_lem : (g : Standing) (p : Phase) (o : Option Stage) (n : Option AvailableConsumer) → stage_from g.a g.b ≡ o
+    → new_from g.contract ≡ n → g.c ≡ 0 → StandingBytes g → connecting_with o n ≡ Some p
     → Read (of 3 g.a g.b g.c g.contract) p
-connecting_with_lem g p ReadStage.Refused n e k c h q = absurd (let z : ◌≡◌ {A = ℕ} 0 1 = cc in omega arith)
-connecting_with_lem g p (ReadStage.Read s) OptionAvailableConsumer.None e k c h q =
-    absurd (let z : ◌≡◌ {A = ℕ} 0 1 = cc in omega arith)
-connecting_with_lem g p (ReadStage.Read s) (OptionAvailableConsumer.Some new) e k c h q =
+connecting_with_lem g p None n e k c h q = absurd (cc)
+connecting_with_lem g p (Some s) None e k c h q =
+    absurd (cc)
+connecting_with_lem g p (Some s) (Some new) e k c h q =
     let m : Phase.Connecting s new ≡ p = cc in
     let r = stage_read g.a g.b s e in
     let x = r.number in
@@ -477,15 +470,15 @@ connecting_with_lem g p (ReadStage.Read s) (OptionAvailableConsumer.Some new) e 
     (record { written = λ i. of 3 (x i) (y i) (c i) (v i); typed = w.typed })
 
 connecting_read : (g : Standing) (p : Phase) (t : Bool) → eqb g.c 0 ≡ t → StandingBytes g
-    → cond t (connecting_with (stage_from g.a g.b) (new_from g.contract)) ReadPhase.Refused ≡ ReadPhase.Read p
+    → cond t (connecting_with (stage_from g.a g.b) (new_from g.contract)) None ≡ Some p
     → Read (of 3 g.a g.b g.c g.contract) p
 connecting_read g p true e h q = connecting_with_lem g p (stage_from g.a g.b) (new_from g.contract) refl refl (eqb-true g.c 0 e) h q
-connecting_read g p false e h q = absurd (let z : ◌≡◌ {A = ℕ} 0 1 = cc in omega arith)
+connecting_read g p false e h q = absurd (cc)
 
-providing_with_lem : (g : Standing) (p : Phase) (o : OptionProviderPowerCapability) → provider_from g.contract ≡ o → g.a + g.b + g.c ≡ 0
-    → StandingBytes g → providing_with g.contract.number o ≡ ReadPhase.Read p → Read (of 4 g.a g.b g.c g.contract) p
-providing_with_lem g p OptionProviderPowerCapability.None e k h q = absurd (let z : ◌≡◌ {A = ℕ} 0 1 = cc in omega arith)
-providing_with_lem g p (OptionProviderPowerCapability.Some c) e k h q =
+providing_with_lem : (g : Standing) (p : Phase) (o : Option ProviderPowerCapability) → provider_from g.contract ≡ o → g.a + g.b + g.c ≡ 0
+    → StandingBytes g → providing_with g.contract.number o ≡ Some p → Read (of 4 g.a g.b g.c g.contract) p
+providing_with_lem g p None e k h q = absurd (cc)
+providing_with_lem g p (Some c) e k h q =
     let m : Phase.Providing g.contract.number c ≡ p = cc in
     let x : g.a ≡ 0 = omega arith in
     let y : g.b ≡ 0 = omega arith in
@@ -498,19 +491,19 @@ providing_with_lem g p (OptionProviderPowerCapability.Some c) e k h q =
     })
 
 providing_read : (g : Standing) (p : Phase) (t : Bool) → eqb (g.a + g.b + g.c) 0 ≡ t → StandingBytes g
-    → cond t (providing_with g.contract.number (provider_from g.contract)) ReadPhase.Refused ≡ ReadPhase.Read p
+    → cond t (providing_with g.contract.number (provider_from g.contract)) None ≡ Some p
     → Read (of 4 g.a g.b g.c g.contract) p
 providing_read g p true e h q = providing_with_lem g p (provider_from g.contract) refl (eqb-true (g.a + g.b + g.c) 0 e) h q
-providing_read g p false e h q = absurd (let z : ◌≡◌ {A = ℕ} 0 1 = cc in omega arith)
+providing_read g p false e h q = absurd (cc)
 
-kind_read : (n : ℕ) (g : Standing) (p : Phase) → StandingBytes g → get_or (phases g) n ReadPhase.Refused ≡ ReadPhase.Read p
+kind_read : (n : ℕ) (g : Standing) (p : Phase) → StandingBytes g → get_or (phases g) n None ≡ Some p
     → Read (of n g.a g.b g.c g.contract) p
 kind_read zero g p h q = closed_read g p (no_group g.contract) refl q
 kind_read (suc zero) g p h q = leaving_read g p (no_group g.contract) refl q
 kind_read (suc (suc zero)) g p h q = switching_with_lem g p (disconnect_from g.c) (new_from g.contract) refl refl h q
 kind_read (suc (suc (suc zero))) g p h q = connecting_read g p (eqb g.c 0) refl h q
 kind_read (suc (suc (suc (suc zero)))) g p h q = providing_read g p (eqb (g.a + g.b + g.c) 0) refl h q
-kind_read (suc (suc (suc (suc (suc n))))) g p h q = absurd (let z : ◌≡◌ {A = ℕ} 0 1 = cc in omega arith)
+kind_read (suc (suc (suc (suc (suc n))))) g p h q = absurd (cc)
 
-pub phase_read : (g : Standing) (p : Phase) → StandingBytes g → phase_from g ≡ ReadPhase.Read p → Read g p
+pub phase_read : (g : Standing) (p : Phase) → StandingBytes g → phase_from g ≡ Some p → Read g p
 phase_read g p h q = kind_read g.kind g p h q

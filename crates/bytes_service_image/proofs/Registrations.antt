@@ -1,5 +1,6 @@
 -- What is registered has one encoding: its figures are the digits of their groups, and a minimum is there or not.
 -- Assumes nothing.
+use Rattle.std.specs.Prelude.{None, Option, Some}
 use mathlib.Core.Path.{◌≡◌, refl, ap, subst, ◌∙◌}
 use mathlib.Core.Bool.{Bool, true, false, cond}
 use Prim.Native.Nat.{ℕ, zero, suc, ◌+◌, ◌≤◌, ◌<◌}
@@ -9,15 +10,12 @@ use lib.Dec.{eqb, leb}
 use borrow.Author.Tests.{eqb-true, leb-true}
 use Rattle.interface_records.specs.Row.{AllBytes}
 use Rattle.power_policy_service.specs.Config.{MinimumFits, ConfigFits}
-use Rattle.power_policy_service.specs.declared.config.OptionMilliwatts.{OptionMilliwatts}
-use Rattle.power_policy_service.specs.declared.config.ReadMinimum.{ReadMinimum}
 use Rattle.abstract_policy.specs.declared.state.Registration.{Registration}
 use Rattle.power_policy_interface.proofs.Conjunction.{and_left, and_right}
 use Rattle.bytes_groups.specs.Quad.{number_quad, number_from, power_from}
 use Rattle.bytes_groups.proofs.Places.{Below, none, one, both}
 use Rattle.bytes_groups.proofs.Quads.{QuadBytes, quad_at_lem, quad_bytes_lem, number_back, number_written, number_within, number_bytes, power_back, power_written, power_within, power_bytes}
 use Rattle.bytes_service_groups.specs.Registration.{registered_at, registered_bytes, presence, figure, registered, minimum_read, registration_with, registration_from}
-use Rattle.bytes_service_groups.specs.declared.registration.ReadRegistration.{ReadRegistration}
 use Rattle.bytes_service_groups.specs.declared.registration.Registered.{Registered}
 use Rattle.bytes_service_image.specs.WellFormed.{registration_fits}
 use Rattle.bytes_service_image.proofs.Fits.{fits, within}
@@ -51,44 +49,44 @@ registered_bytes_lem g h =
 
 -- the minimum
 
-minimum_back : (m : OptionMilliwatts) → minimum_read (presence m) (number_from (number_quad (figure m))) ≡ ReadMinimum.Read m
-minimum_back OptionMilliwatts.None = refl
-minimum_back (OptionMilliwatts.Some n) = ap (λ (k : ℕ). ReadMinimum.Read (OptionMilliwatts.Some k)) (number_back n)
+minimum_back : (m : Option ℕ) → minimum_read (presence m) (number_from (number_quad (figure m))) ≡ Some m
+minimum_back None = refl
+minimum_back (Some n) = ap (λ (k : ℕ). Some (Some k)) (number_back n)
 
-pub record Minimum (p n : ℕ) (m : OptionMilliwatts) : Type 0 where
+pub record Minimum (p n : ℕ) (m : Option ℕ) : Type 0 where
   pub presence : p ≡ presence m
   pub figure : n ≡ figure m
 
-no_minimum : (n : ℕ) (m : OptionMilliwatts) (t : Bool) → eqb n 0 ≡ t
-    → cond t (ReadMinimum.Read OptionMilliwatts.None) ReadMinimum.Refused ≡ ReadMinimum.Read m → Minimum 0 n m
-no_minimum n OptionMilliwatts.None true e q = record { presence = refl; figure = eqb-true n 0 e }
-no_minimum n (OptionMilliwatts.Some k) true e q = absurd (let z : ◌≡◌ {A = ℕ} 0 1 = cc in omega arith)
-no_minimum n m false e q = absurd (let z : ◌≡◌ {A = ℕ} 0 1 = cc in omega arith)
+no_minimum : (n : ℕ) (m : Option ℕ) (t : Bool) → eqb n 0 ≡ t
+    → cond t (Some None) None ≡ Some m → Minimum 0 n m
+no_minimum n None true e q = record { presence = refl; figure = eqb-true n 0 e }
+no_minimum n (Some k) true e q = absurd (cc)
+no_minimum n m false e q = absurd (cc)
 
-a_minimum : (n : ℕ) (m : OptionMilliwatts) → ReadMinimum.Read (OptionMilliwatts.Some n) ≡ ReadMinimum.Read m → Minimum 1 n m
-a_minimum n OptionMilliwatts.None q = absurd (let z : ◌≡◌ {A = ℕ} 0 1 = cc in omega arith)
-a_minimum n (OptionMilliwatts.Some k) q = record { presence = refl; figure = cc }
+a_minimum : (n : ℕ) (m : Option ℕ) → Some (Some n) ≡ Some m → Minimum 1 n m
+a_minimum n None q = absurd (cc)
+a_minimum n (Some k) q = record { presence = refl; figure = cc }
 
-minimum_read_lem : (p n : ℕ) (m : OptionMilliwatts) → minimum_read p n ≡ ReadMinimum.Read m → Minimum p n m
+minimum_read_lem : (p n : ℕ) (m : Option ℕ) → minimum_read p n ≡ Some m → Minimum p n m
 minimum_read_lem zero n m q = no_minimum n m (eqb n 0) refl q
 minimum_read_lem (suc zero) n m q = a_minimum n m q
-minimum_read_lem (suc (suc p)) n m q = absurd (let z : ◌≡◌ {A = ℕ} 0 1 = cc in omega arith)
+minimum_read_lem (suc (suc p)) n m q = absurd (cc)
 
-minimum_typed : (m : OptionMilliwatts) → figure m ≤ 4294967295 → MinimumFits m
-minimum_typed OptionMilliwatts.None h = tt
-minimum_typed (OptionMilliwatts.Some n) h = h
+minimum_typed : (m : Option ℕ) → figure m ≤ 4294967295 → MinimumFits m
+minimum_typed None h = tt
+minimum_typed (Some n) h = h
 
-figure_typed : (m : OptionMilliwatts) → MinimumFits m → figure m ≤ 4294967295
-figure_typed OptionMilliwatts.None h = omega arith
-figure_typed (OptionMilliwatts.Some n) h = h
+figure_typed : (m : Option ℕ) → MinimumFits m → figure m ≤ 4294967295
+figure_typed None h = omega arith
+figure_typed (Some n) h = h
 
-presence_le : (m : OptionMilliwatts) → presence m ≤ 1
-presence_le OptionMilliwatts.None = omega arith
-presence_le (OptionMilliwatts.Some n) = omega arith
+presence_le : (m : Option ℕ) → presence m ≤ 1
+presence_le None = omega arith
+presence_le (Some n) = omega arith
 
 -- reading what was written
 
-pub registration_back : (g : Registration) → registration_from (registered g) ≡ ReadRegistration.Read g
+pub registration_back : (g : Registration) → registration_from (registered g) ≡ Some g
 registration_back g =
     let c = g.config in
     rw (
@@ -119,7 +117,7 @@ pub record Read (g : Registered) (r : Registration) : Type 0 where
   pub written : g ≡ registered r
   pub typed : ConfigFits r.config
 
-abbrev made : Registered → OptionMilliwatts → Registration
+abbrev made : Registered → Option ℕ → Registration
 made g m =
     record {
       config = record {
@@ -132,7 +130,7 @@ made g m =
       chargers = g.chargers;
     }
 
-parts : (g : Registered) (m : OptionMilliwatts) → RegisteredBytes g → Minimum g.presence (number_from g.figure) m → Read g (made g m)
+parts : (g : Registered) (m : Option ℕ) → RegisteredBytes g → Minimum g.presence (number_from g.figure) m → Read g (made g m)
 parts g m h k =
     let t = number_written g.threshold h.threshold in
     let u = power_written g.unlimited h.unlimited in
@@ -157,12 +155,12 @@ parts g m h k =
       };
     }
 
-with_minimum : (g : Registered) (r : Registration) (m : ReadMinimum) → minimum_read g.presence (number_from g.figure) ≡ m
-    → RegisteredBytes g → registration_with m g ≡ ReadRegistration.Read r → Read g r
-with_minimum g r ReadMinimum.Refused e h q = absurd (let z : ◌≡◌ {A = ℕ} 0 1 = cc in omega arith)
-with_minimum g r (ReadMinimum.Read m) e h q =
+with_minimum : (g : Registered) (r : Registration) (m : Option (Option ℕ)) → minimum_read g.presence (number_from g.figure) ≡ m
+    → RegisteredBytes g → registration_with m g ≡ Some r → Read g r
+with_minimum g r None e h q = absurd (cc)
+with_minimum g r (Some m) e h q =
     let k : made g m ≡ r = cc in
     subst (λ (x : Registration). Read g x) k (parts g m h (minimum_read_lem g.presence (number_from g.figure) m e))
 
-pub registration_read : (g : Registered) (r : Registration) → RegisteredBytes g → registration_from g ≡ ReadRegistration.Read r → Read g r
+pub registration_read : (g : Registered) (r : Registration) → RegisteredBytes g → registration_from g ≡ Some r → Read g r
 registration_read g r h q = with_minimum g r (minimum_read g.presence (number_from g.figure)) refl h q

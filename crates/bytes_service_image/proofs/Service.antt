@@ -1,5 +1,6 @@
 -- A well-formed service has one image, and the bytes that are read are such an image: each group has one encoding, and the groups stand at fixed places.
 -- Assumes nothing.
+use Rattle.std.specs.Prelude.{None, Option, Some}
 use mathlib.Core.Path.{◌≡◌, refl, ap, sym, subst, ◌∙◌}
 use mathlib.Core.Bool.{Bool, true, false, cond, ◌&&◌}
 use mathlib.Core.List.{List, [], ◌∷◌, ◌++◌}
@@ -19,9 +20,16 @@ use Rattle.bytes_groups.specs.Shown.{shown_at, shown_bytes, display_shown}
 use Rattle.bytes_groups.specs.Tagged.{tagged_at, tagged_bytes, consumer_tagged, optional_from}
 use Rattle.bytes_groups.specs.declared.quad.Quad.{Quad}
 use Rattle.bytes_groups.specs.declared.shown.Shown.{Shown}
-use Rattle.bytes_groups.specs.declared.tagged.ReadOptionConsumer.{ReadOptionConsumer}
+use Rattle.abstract_policy.specs.declared.state.InternalState.{InternalState}
+use Rattle.abstract_policy.specs.declared.state.Registration.{Registration}
+use Rattle.interface_display.specs.declared.AvailableConsumer.{AvailableConsumer}
+use Rattle.machine_state.specs.declared.memory.Disconnected.{Disconnected}
+use Rattle.machine_state.specs.declared.memory.ProviderNotice.{ProviderNotice}
+use Rattle.machine_state.specs.declared.phase.Phase.{Phase}
+use Rattle.power_policy_interface.specs.declared.service.UnconstrainedState.{UnconstrainedState}
 use Rattle.bytes_groups.specs.declared.tagged.Tagged.{Tagged}
-use Rattle.bytes_groups.proofs.Places.{Below, none, one, both, gets_all}
+use Rattle.bytes_groups.proofs.Places.{Below, none, one, both}
+use Rattle.interface_records.proofs.OneRecord.{gets_all}
 use Rattle.bytes_groups.proofs.Quads.{quad_at_lem, quad_bytes_lem, number_back, number_written, number_within, number_bytes}
 use Rattle.bytes_groups.proofs.Consumers.{Optional, tagged_at_lem, tagged_bytes_lem, optional_back, optional_bytes, optional_read}
 use Rattle.bytes_groups.proofs.Displays.{shown_at_lem, shown_bytes_lem, display_bytes_lem}
@@ -29,20 +37,12 @@ use Rattle.bytes_service_groups.specs.Notices.{notices_bytes, notices_from, trip
 use Rattle.bytes_service_groups.specs.Phase.{standing_at, standing_bytes, standing, phase_from}
 use Rattle.bytes_service_groups.specs.Registration.{head_bytes, registered_at, registered_bytes, registered, registration_from}
 use Rattle.bytes_service_groups.specs.State.{held_bytes, power_byte, state_from}
-use Rattle.bytes_service_groups.specs.declared.notices.ReadDisconnected.{ReadDisconnected}
-use Rattle.bytes_service_groups.specs.declared.notices.ReadNotices.{ReadNotices}
-use Rattle.bytes_service_groups.specs.declared.notices.ReadProvider.{ReadProvider}
-use Rattle.bytes_service_groups.specs.declared.notices.ReadUnconstrained.{ReadUnconstrained}
 use Rattle.bytes_service_groups.specs.declared.notices.Triple.{Triple}
-use Rattle.bytes_service_groups.specs.declared.phase.ReadPhase.{ReadPhase}
 use Rattle.bytes_service_groups.specs.declared.phase.Standing.{Standing}
-use Rattle.bytes_service_groups.specs.declared.registration.ReadRegistration.{ReadRegistration}
 use Rattle.bytes_service_groups.specs.declared.registration.Registered.{Registered}
-use Rattle.bytes_service_groups.specs.declared.state.ReadState.{ReadState}
 use Rattle.bytes_service_image.specs.Image.{service_bytes, service_with, parts_from, checked, service_from}
 use Rattle.bytes_service_image.specs.Typed.{Typed, ProviderTyped, ConsumerTyped}
 use Rattle.bytes_service_image.specs.WellFormed.{registration_fits, state_fits, phase_fits, number_fits, orders_fit, notices_fit, provider_fits, disconnected_fits, consumer_fits, unconstrained_fits, tells, well_formed}
-use Rattle.bytes_service_image.specs.declared.ReadService.{ReadService}
 use Rattle.bytes_service_image.proofs.Fits.{consumer_typed, consumer_within}
 use Rattle.bytes_service_image.proofs.Registrations as registrations
 use Rattle.bytes_service_image.proofs.States as states
@@ -144,7 +144,7 @@ service_bytes_lem s t e =
 notices_back : (n : Notices)
     → notices_with (provider_read (provider_tagged n.provider)) (disconnected_read (disconnected_triple n.disconnected)) (optional_from (consumer_tagged n.connected))
     (unconstrained_read (unconstrained_triple n.unconstrained))
-    ≡ ReadNotices.Read n
+    ≡ Some n
 notices_back n =
     rw (
       told.provider_notice_back n.provider,
@@ -160,14 +160,14 @@ parts_back : (s : Service) → Parts s
     (phase_from (standing s.phase))
     (notices_with (provider_read (provider_tagged s.memory.notices.provider)) (disconnected_read (disconnected_triple s.memory.notices.disconnected)) (optional_from (consumer_tagged s.memory.notices.connected))
     (unconstrained_read (unconstrained_triple s.memory.notices.unconstrained)))
-    ≡ ReadService.Read s
+    ≡ Some s
 parts_back s w =
     λ i. service_with (registrations.registration_back s.registration i) (number_back s.number i) (states.state_back s.memory.state i) s.orders (phases.phase_back s.registration.ports s.registration.chargers s.phase w.chargers w.phase i) (notices_back s.memory.notices i)
 
-pub service_read_write : (s : Service) → Typed s → well_formed s ≡ true → service_from (service_bytes s) ≡ ReadService.Read s
+pub service_read_write : (s : Service) → Typed s → well_formed s ≡ true → service_from (service_bytes s) ≡ Some s
 unfolding service_from service_bytes
 service_read_write s t e =
-    ap checked (parts_back s (parts s e)) ∙ ap (λ (b : Bool). cond b (ReadService.Read s) ReadService.Refused) e
+    ap checked (parts_back s (parts s e)) ∙ ap (λ (b : Bool). cond b (Some s) None) e
 
 -- what the bytes of an image say, group by group
 
@@ -177,16 +177,16 @@ record Told (b : List ℕ) (n : Notices) : Type 0 where
   connected : Optional (tagged_at b 57) n.connected
   unconstrained : triple_at b 64 ≡ unconstrained_triple n.unconstrained
 
-notices_read_lem : (b : List ℕ) (n : Notices) (p : ReadProvider) (d : ReadDisconnected) (c : ReadOptionConsumer) (u : ReadUnconstrained)
+notices_read_lem : (b : List ℕ) (n : Notices) (p : Option ProviderNotice) (d : Option (Option Disconnected)) (c : Option (Option AvailableConsumer)) (u : Option (Option UnconstrainedState))
     → AllBytes b → provider_read (tagged_at b 47) ≡ p → disconnected_read (triple_at b 54) ≡ d → optional_from (tagged_at b 57) ≡ c
-    → unconstrained_read (triple_at b 64) ≡ u → notices_with p d c u ≡ ReadNotices.Read n → Told b n
-notices_read_lem b n ReadProvider.Refused d c u h x y z w q = absurd (let v : ◌≡◌ {A = ℕ} 0 1 = cc in omega arith)
-notices_read_lem b n (ReadProvider.Read p) ReadDisconnected.Refused c u h x y z w q = absurd (let v : ◌≡◌ {A = ℕ} 0 1 = cc in omega arith)
-notices_read_lem b n (ReadProvider.Read p) (ReadDisconnected.Read d) ReadOptionConsumer.Refused u h x y z w q =
+    → unconstrained_read (triple_at b 64) ≡ u → notices_with p d c u ≡ Some n → Told b n
+notices_read_lem b n None d c u h x y z w q = absurd (let v : ◌≡◌ {A = ℕ} 0 1 = cc in omega arith)
+notices_read_lem b n (Some p) None c u h x y z w q = absurd (let v : ◌≡◌ {A = ℕ} 0 1 = cc in omega arith)
+notices_read_lem b n (Some p) (Some d) None u h x y z w q =
     absurd (let v : ◌≡◌ {A = ℕ} 0 1 = cc in omega arith)
-notices_read_lem b n (ReadProvider.Read p) (ReadDisconnected.Read d) (ReadOptionConsumer.Read c) ReadUnconstrained.Refused h x y z w q =
+notices_read_lem b n (Some p) (Some d) (Some c) None h x y z w q =
     absurd (let v : ◌≡◌ {A = ℕ} 0 1 = cc in omega arith)
-notices_read_lem b n (ReadProvider.Read p) (ReadDisconnected.Read d) (ReadOptionConsumer.Read c) (ReadUnconstrained.Read u) h x y z w q =
+notices_read_lem b n (Some p) (Some d) (Some c) (Some u) h x y z w q =
     let k : record { provider = p; disconnected = d; connected = c; unconstrained = u } ≡ n = cc in
     subst (λ (v : Notices). Told b v) k
     (record {
@@ -196,7 +196,7 @@ notices_read_lem b n (ReadProvider.Read p) (ReadDisconnected.Read d) (ReadOption
       unconstrained = told.unconstrained_written (triple_at b 64) u w;
     })
 
-notices_said : (b : List ℕ) (n : Notices) → AllBytes b → notices_from b ≡ ReadNotices.Read n → Told b n
+notices_said : (b : List ℕ) (n : Notices) → AllBytes b → notices_from b ≡ Some n → Told b n
 notices_said b n h q =
     notices_read_lem b n (provider_read (tagged_at b 47)) (disconnected_read (triple_at b 54)) (optional_from (tagged_at b 57)) (unconstrained_read (triple_at b 64)) h
     refl
@@ -213,17 +213,17 @@ record Said (b : List ℕ) (s : Service) : Type 0 where
   phase : phases.Read (standing_at b 37) s.phase
   notices : Told b s.memory.notices
 
-groups_read : (b : List ℕ) (s : Service) (g : ReadRegistration) (t : ReadState) (p : ReadPhase) (n : ReadNotices) → AllBytes b
+groups_read : (b : List ℕ) (s : Service) (g : Option Registration) (t : Option InternalState) (p : Option Phase) (n : Option Notices) → AllBytes b
     → registration_from (registered_at b 1) ≡ g → state_from (shown_at b 24) (get_or b 35 0) ≡ t → phase_from (standing_at b 37) ≡ p → notices_from b ≡ n
-    → service_with g (number_from (quad_at b 20)) t (get_or b 36 0) p n ≡ ReadService.Read s
+    → service_with g (number_from (quad_at b 20)) t (get_or b 36 0) p n ≡ Some s
     → Said b s
-groups_read b s ReadRegistration.Refused t p n h x y z w q = absurd (let v : ◌≡◌ {A = ℕ} 0 1 = cc in omega arith)
-groups_read b s (ReadRegistration.Read g) ReadState.Refused p n h x y z w q = absurd (let v : ◌≡◌ {A = ℕ} 0 1 = cc in omega arith)
-groups_read b s (ReadRegistration.Read g) (ReadState.Read t) ReadPhase.Refused n h x y z w q =
+groups_read b s None t p n h x y z w q = absurd (let v : ◌≡◌ {A = ℕ} 0 1 = cc in omega arith)
+groups_read b s (Some g) None p n h x y z w q = absurd (let v : ◌≡◌ {A = ℕ} 0 1 = cc in omega arith)
+groups_read b s (Some g) (Some t) None n h x y z w q =
     absurd (let v : ◌≡◌ {A = ℕ} 0 1 = cc in omega arith)
-groups_read b s (ReadRegistration.Read g) (ReadState.Read t) (ReadPhase.Read p) ReadNotices.Refused h x y z w q =
+groups_read b s (Some g) (Some t) (Some p) None h x y z w q =
     absurd (let v : ◌≡◌ {A = ℕ} 0 1 = cc in omega arith)
-groups_read b s (ReadRegistration.Read g) (ReadState.Read t) (ReadPhase.Read p) (ReadNotices.Read n) h x y z w q =
+groups_read b s (Some g) (Some t) (Some p) (Some n) h x y z w q =
     let k : record { registration = g; number = number_from (quad_at b 20); memory = record { state = t; notices = n }; orders = get_or b 36 0; phase = p } ≡ s = cc in
     subst (λ (v : Service). Said b v) k
     (record {
@@ -235,7 +235,7 @@ groups_read b s (ReadRegistration.Read g) (ReadState.Read t) (ReadPhase.Read p) 
       notices = notices_said b n h w;
     })
 
-groups_said : (b : List ℕ) (s : Service) → AllBytes b → parts_from b ≡ ReadService.Read s → Said b s
+groups_said : (b : List ℕ) (s : Service) → AllBytes b → parts_from b ≡ Some s → Said b s
 groups_said b s h q =
     groups_read b s (registration_from (registered_at b 1)) (state_from (shown_at b 24) (get_or b 35 0)) (phase_from (standing_at b 37)) (notices_from b) h refl
     refl
@@ -246,33 +246,33 @@ groups_said b s h q =
 record Accepted (b : List ℕ) (s : Service) : Type 0 where
   size : length b ≡ service_length
   first : get_or b 0 0 ≡ 1
-  groups : parts_from b ≡ ReadService.Read s
+  groups : parts_from b ≡ Some s
   formed : well_formed s ≡ true
 
-formed_read : (b : List ℕ) (s x : Service) (t : Bool) → length b ≡ service_length → get_or b 0 0 ≡ 1 → parts_from b ≡ ReadService.Read x → well_formed x ≡ t
-    → cond t (ReadService.Read x) ReadService.Refused ≡ ReadService.Read s → Accepted b s
+formed_read : (b : List ℕ) (s x : Service) (t : Bool) → length b ≡ service_length → get_or b 0 0 ≡ 1 → parts_from b ≡ Some x → well_formed x ≡ t
+    → cond t (Some x) None ≡ Some s → Accepted b s
 formed_read b s x true l f g e q =
     let k : x ≡ s = cc in
     subst (λ (v : Service). Accepted b v) k (record { size = l; first = f; groups = g; formed = e })
 formed_read b s x false l f g e q = absurd (let v : ◌≡◌ {A = ℕ} 0 1 = cc in omega arith)
 
-checked_read : (b : List ℕ) (s : Service) (r : ReadService) → length b ≡ service_length → get_or b 0 0 ≡ 1 → parts_from b ≡ r → checked r ≡ ReadService.Read s
+checked_read : (b : List ℕ) (s : Service) (r : Option Service) → length b ≡ service_length → get_or b 0 0 ≡ 1 → parts_from b ≡ r → checked r ≡ Some s
     → Accepted b s
-checked_read b s ReadService.Refused l f g q = absurd (let v : ◌≡◌ {A = ℕ} 0 1 = cc in omega arith)
-checked_read b s (ReadService.Read x) l f g q = formed_read b s x (well_formed x) l f g refl q
+checked_read b s None l f g q = absurd (let v : ◌≡◌ {A = ℕ} 0 1 = cc in omega arith)
+checked_read b s (Some x) l f g q = formed_read b s x (well_formed x) l f g refl q
 
 first_read : (b : List ℕ) (s : Service) (t : Bool) → length b ≡ service_length → eqb (get_or b 0 0) 1 ≡ t
-    → cond t (checked (parts_from b)) ReadService.Refused ≡ ReadService.Read s → Accepted b s
+    → cond t (checked (parts_from b)) None ≡ Some s → Accepted b s
 first_read b s true l e q = checked_read b s (parts_from b) l (eqb-true (get_or b 0 0) 1 e) refl q
 first_read b s false l e q = absurd (let v : ◌≡◌ {A = ℕ} 0 1 = cc in omega arith)
 
 size_read : (b : List ℕ) (s : Service) (t : Bool) → eqb (length b) service_length ≡ t
-    → cond t (cond (eqb (get_or b 0 0) 1) (checked (parts_from b)) ReadService.Refused) ReadService.Refused ≡ ReadService.Read s
+    → cond t (cond (eqb (get_or b 0 0) 1) (checked (parts_from b)) None) None ≡ Some s
     → Accepted b s
 size_read b s true e q = first_read b s (eqb (get_or b 0 0) 1) (eqb-true (length b) service_length e) refl q
 size_read b s false e q = absurd (let v : ◌≡◌ {A = ℕ} 0 1 = cc in omega arith)
 
-accepted : (b : List ℕ) (s : Service) → service_from b ≡ ReadService.Read s → Accepted b s
+accepted : (b : List ℕ) (s : Service) → service_from b ≡ Some s → Accepted b s
 unfolding service_from
 accepted b s q = size_read b s (eqb (length b) service_length) refl q
 
@@ -289,7 +289,7 @@ in_order : (b : List ℕ) → length b ≡ service_length
     ≡ bytes_of (get_or b 0 0) (registered_at b 1) (quad_at b 20) (shown_at b 24) (get_or b 35 0) (get_or b 36 0) (standing_at b 37) (tagged_at b 47) (triple_at b 54) (tagged_at b 57) (triple_at b 64)
 in_order b e = sym (gets_all b service_length e)
 
-pub service_write_read : (b : List ℕ) (s : Service) → AllBytes b → service_from b ≡ ReadService.Read s → service_bytes s ≡ b
+pub service_write_read : (b : List ℕ) (s : Service) → AllBytes b → service_from b ≡ Some s → service_bytes s ≡ b
 unfolding service_bytes
 service_write_read b s h q =
     let a = accepted b s q in
@@ -307,7 +307,7 @@ service_write_read b s h q =
     let z = w.notices.unconstrained in
     sym (in_order b a.size ∙ (λ i. bytes_of (f i) (g i) (n i) (d i) (p i) (k i) (t i) (r i) (x i) (y i) (z i)))
 
-pub service_read_typed : (b : List ℕ) (s : Service) → AllBytes b → service_from b ≡ ReadService.Read s → Typed s × (well_formed s ≡ true)
+pub service_read_typed : (b : List ℕ) (s : Service) → AllBytes b → service_from b ≡ Some s → Typed s × (well_formed s ≡ true)
 service_read_typed b s h q =
     let a = accepted b s q in
     let w = groups_said b s h a.groups in (

@@ -1,5 +1,6 @@
 -- What is held has one encoding: that of its display, and a number for the power state.
 -- Assumes nothing.
+use Rattle.std.specs.Prelude.{None, Option, Some}
 use mathlib.Core.Path.{◌≡◌, refl, ap, subst, ◌∙◌}
 use mathlib.Core.Bool.{true, ◌&&◌}
 use Prim.Native.Nat.{ℕ, zero, suc, ◌≤◌, ◌<◌, ◌^◌}
@@ -13,18 +14,15 @@ use Rattle.abstract_policy.specs.State.{display_of}
 use Rattle.abstract_policy.specs.declared.state.InternalState.{InternalState}
 use Rattle.power_policy_interface.proofs.Conjunction.{and_left, and_right}
 use Rattle.bytes_groups.specs.Shown.{display_shown, display_from}
-use Rattle.bytes_groups.specs.declared.shown.ReadDisplay.{ReadDisplay}
 use Rattle.bytes_groups.specs.declared.shown.Shown.{Shown}
 use Rattle.bytes_groups.proofs.Displays.{ShownBytes, DisplayWithin, Displayed, display_back, display_read}
 use Rattle.bytes_service_groups.specs.State.{power_byte, power_state_from, state_with, state_from}
-use Rattle.bytes_service_groups.specs.declared.state.ReadPowerState.{ReadPowerState}
-use Rattle.bytes_service_groups.specs.declared.state.ReadState.{ReadState}
 use Rattle.bytes_service_image.specs.Typed.{ConsumerTyped}
 use Rattle.bytes_service_image.specs.WellFormed.{consumer_fits, providers_fit, state_fits}
 use Rattle.bytes_service_image.proofs.Fits.{consumer_typed, consumer_within}
 use Rattle.bytes_service_image.proofs.Masks.{mask_lt}
 
-power_back : (p : PowerState) → power_state_from (power_byte p) ≡ ReadPowerState.Read p
+power_back : (p : PowerState) → power_state_from (power_byte p) ≡ Some p
 power_back PowerState.Unlimited = refl
 power_back PowerState.Limited = refl
 
@@ -33,20 +31,20 @@ power_lt PowerState.Unlimited = omega arith
 power_lt PowerState.Limited = omega arith
 
 -- the byte of a power state that was read, whatever for a refusal
-power_number : ReadPowerState → ℕ
-power_number ReadPowerState.Refused = 2
-power_number (ReadPowerState.Read p) = power_byte p
+power_number : Option PowerState → ℕ
+power_number None = 2
+power_number (Some p) = power_byte p
 
-power_written : (b : ℕ) (p : PowerState) → power_state_from b ≡ ReadPowerState.Read p → b ≡ power_byte p
+power_written : (b : ℕ) (p : PowerState) → power_state_from b ≡ Some p → b ≡ power_byte p
 unfolding power_number
 power_written zero p e = ap power_number e
 power_written (suc zero) p e = ap power_number e
-power_written (suc (suc b)) p e = absurd (let z : ◌≡◌ {A = ℕ} 0 1 = cc in omega arith)
+power_written (suc (suc b)) p e = absurd (cc)
 
-pub state_back : (s : InternalState) → state_from (display_shown (display_of s)) (power_byte s.current_provider_state) ≡ ReadState.Read s
+pub state_back : (s : InternalState) → state_from (display_shown (display_of s)) (power_byte s.current_provider_state) ≡ Some s
 state_back s =
-    ap (λ (r : ReadDisplay). state_with r (power_state_from (power_byte s.current_provider_state))) (display_back (display_of s))
-    ∙ ap (state_with (ReadDisplay.Read (display_of s))) (power_back s.current_provider_state)
+    ap (λ (r : Option Display). state_with r (power_state_from (power_byte s.current_provider_state))) (display_back (display_of s))
+    ∙ ap (state_with (Some (display_of s))) (power_back s.current_provider_state)
 
 pub state_within : (ports : ℕ) (s : InternalState) → ports ≤ 16 → state_fits ports s ≡ true → ConsumerTyped s.current_consumer_state
     → DisplayWithin (display_of s)
@@ -78,20 +76,20 @@ made d p =
       connected_providers = d.providers;
     }
 
-parts : (g : Shown) (b : ℕ) (d : Display) (p : PowerState) → Displayed g d → power_state_from b ≡ ReadPowerState.Read p → Read g b (made d p)
+parts : (g : Shown) (b : ℕ) (d : Display) (p : PowerState) → Displayed g d → power_state_from b ≡ Some p → Read g b (made d p)
 parts g b d p h e = record {
   shown = h.written;
   power = power_written b p e;
   typed = consumer_typed d.consumer h.typed.consumer;
 }
 
-both_read : (g : Shown) (b : ℕ) (s : InternalState) (d : ReadDisplay) (p : ReadPowerState) → display_from g ≡ d → power_state_from b ≡ p
-    → ShownBytes g → state_with d p ≡ ReadState.Read s → Read g b s
-both_read g b s ReadDisplay.Refused p x y h q = absurd (let z : ◌≡◌ {A = ℕ} 0 1 = cc in omega arith)
-both_read g b s (ReadDisplay.Read d) ReadPowerState.Refused x y h q = absurd (let z : ◌≡◌ {A = ℕ} 0 1 = cc in omega arith)
-both_read g b s (ReadDisplay.Read d) (ReadPowerState.Read p) x y h q =
+both_read : (g : Shown) (b : ℕ) (s : InternalState) (d : Option Display) (p : Option PowerState) → display_from g ≡ d → power_state_from b ≡ p
+    → ShownBytes g → state_with d p ≡ Some s → Read g b s
+both_read g b s None p x y h q = absurd (cc)
+both_read g b s (Some d) None x y h q = absurd (cc)
+both_read g b s (Some d) (Some p) x y h q =
     let k : made d p ≡ s = cc in
     subst (λ (v : InternalState). Read g b v) k (parts g b d p (display_read g d h x) y)
 
-pub state_read : (g : Shown) (b : ℕ) (s : InternalState) → ShownBytes g → state_from g b ≡ ReadState.Read s → Read g b s
+pub state_read : (g : Shown) (b : ℕ) (s : InternalState) → ShownBytes g → state_from g b ≡ Some s → Read g b s
 state_read g b s h q = both_read g b s (display_from g) (power_state_from b) refl refl h q

@@ -1,5 +1,6 @@
 -- Each notice has one encoding: its presence or kind decides, and unused bytes are zeros.
 -- Assumes nothing.
+use Rattle.std.specs.Prelude.{None, Option, Some}
 use mathlib.Core.Path.{◌≡◌, refl, ap, subst, ◌∙◌}
 use mathlib.Core.Bool.{Bool, true, false, cond}
 use mathlib.Core.List.{List}
@@ -9,8 +10,9 @@ use lib.Dec.{eqb, leb}
 use lib.ListN.{get_or}
 use borrow.Author.Tests.{eqb-true, leb-true, ltb-true}
 use Rattle.power_policy_interface.specs.Capability.{bit, disconnect_from}
-use Rattle.power_policy_interface.specs.declared.capability.OptionDisconnectFlags.{OptionDisconnectFlags}
-use Rattle.power_policy_interface.specs.declared.capability.OptionProviderPowerCapability.{OptionProviderPowerCapability}
+use Rattle.power_policy_interface.specs.declared.capability.DisconnectFlags.{DisconnectFlags}
+use Rattle.power_policy_interface.specs.declared.capability.ProviderPowerCapability.{ProviderPowerCapability}
+use Rattle.power_policy_interface.specs.declared.service.UnconstrainedState.{UnconstrainedState}
 use Rattle.power_policy_interface.proofs.OneByte.{reason_read_write, reason_write_read}
 use Rattle.interface_records.specs.Group.{provider_from, all_zero}
 use Rattle.interface_records.specs.Row.{AllBytes}
@@ -21,15 +23,11 @@ use Rattle.bytes_groups.specs.declared.tagged.Tagged.{Tagged}
 use Rattle.bytes_groups.proofs.Places.{Below, none, one}
 use Rattle.bytes_groups.proofs.Consumers.{GroupBytes, TaggedBytes, empty_bytes, provider_bytes, provider_within, no_group_lem}
 use Rattle.bytes_groups.proofs.Displays.{bit_le}
-use Rattle.machine_state.specs.declared.memory.DisconnectedNotice.{DisconnectedNotice}
+use Rattle.machine_state.specs.declared.memory.Disconnected.{Disconnected}
 use Rattle.machine_state.specs.declared.memory.ProviderNotice.{ProviderNotice}
-use Rattle.machine_state.specs.declared.memory.UnconstrainedNotice.{UnconstrainedNotice}
 use Rattle.bytes_service_groups.specs.Notices.{triple_at, triple_bytes, provider_tagged, disconnected_triple, unconstrained_triple, connected_with, provider_cases, provider_read, disconnected_with, disconnected_cases, disconnected_read, unconstrained_cases, unconstrained_read}
 use Rattle.bytes_service_image.specs.Typed.{ProviderTyped}
 use Rattle.bytes_service_image.specs.WellFormed.{provider_fits, disconnected_fits, unconstrained_fits}
-use Rattle.bytes_service_groups.specs.declared.notices.ReadDisconnected.{ReadDisconnected}
-use Rattle.bytes_service_groups.specs.declared.notices.ReadProvider.{ReadProvider}
-use Rattle.bytes_service_groups.specs.declared.notices.ReadUnconstrained.{ReadUnconstrained}
 use Rattle.bytes_service_groups.specs.declared.notices.Triple.{Triple}
 use Rattle.bytes_service_image.proofs.Fits.{fits, within}
 use Rattle.bytes_service_image.proofs.Phases.{reason_lt}
@@ -47,7 +45,7 @@ triple_bytes_lem g h = one h.tag (one h.a (one h.b none))
 
 -- a provider
 
-pub provider_notice_back : (n : ProviderNotice) → provider_read (provider_tagged n) ≡ ReadProvider.Read n
+pub provider_notice_back : (n : ProviderNotice) → provider_read (provider_tagged n) ≡ Some n
 provider_notice_back ProviderNotice.None = refl
 provider_notice_back (ProviderNotice.Disconnected p) = refl
 provider_notice_back (ProviderNotice.Connected p c) = ap (connected_with p) (provider_back p c)
@@ -71,50 +69,50 @@ pub record Provider (t : Tagged) (n : ProviderNotice) : Type 0 where
   pub typed : ProviderTyped n
 
 no_provider_lem : (g : Group) (n : ProviderNotice) (t : Bool) → no_group g ≡ t
-    → cond t (ReadProvider.Read ProviderNotice.None) ReadProvider.Refused ≡ ReadProvider.Read n → Provider (of 0 g) n
+    → cond t (Some ProviderNotice.None) None ≡ Some n → Provider (of 0 g) n
 no_provider_lem g n true e q =
     let m : ProviderNotice.None ≡ n = cc in
     subst (λ (x : ProviderNotice). Provider (of 0 g) x) m (record { written = ap (of 0) (no_group_lem g e); typed = tt })
-no_provider_lem g n false e q = absurd (let z : ◌≡◌ {A = ℕ} 0 1 = cc in omega arith)
+no_provider_lem g n false e q = absurd (cc)
 
 provider_left : (g : Group) (n : ProviderNotice) (t : Bool) → all_zero g ≡ t
-    → cond t (ReadProvider.Read (ProviderNotice.Disconnected g.number)) ReadProvider.Refused ≡ ReadProvider.Read n
+    → cond t (Some (ProviderNotice.Disconnected g.number)) None ≡ Some n
     → Provider (of 1 g) n
 provider_left g n true e q =
     let m : ProviderNotice.Disconnected g.number ≡ n = cc in
     subst (λ (x : ProviderNotice). Provider (of 1 g) x) m (record { written = ap (of 1) (zeros g e); typed = tt })
-provider_left g n false e q = absurd (let z : ◌≡◌ {A = ℕ} 0 1 = cc in omega arith)
+provider_left g n false e q = absurd (cc)
 
-provider_there : (g : Group) (n : ProviderNotice) (o : OptionProviderPowerCapability) → provider_from g ≡ o → GroupBytes g
-    → connected_with g.number o ≡ ReadProvider.Read n → Provider (of 2 g) n
-provider_there g n OptionProviderPowerCapability.None e h q = absurd (let z : ◌≡◌ {A = ℕ} 0 1 = cc in omega arith)
-provider_there g n (OptionProviderPowerCapability.Some c) e h q =
+provider_there : (g : Group) (n : ProviderNotice) (o : Option ProviderPowerCapability) → provider_from g ≡ o → GroupBytes g
+    → connected_with g.number o ≡ Some n → Provider (of 2 g) n
+provider_there g n None e h q = absurd (cc)
+provider_there g n (Some c) e h q =
     let m : ProviderNotice.Connected g.number c ≡ n = cc in
     subst (λ (x : ProviderNotice). Provider (of 2 g) x) m
     (record { written = ap (of 2) (provider_written g c h.digit e); typed = fits c.capability (provider_within g c h.digit e) })
 
-provider_at : (k : ℕ) (g : Group) (n : ProviderNotice) → GroupBytes g → get_or (provider_cases g) k ReadProvider.Refused ≡ ReadProvider.Read n
+provider_at : (k : ℕ) (g : Group) (n : ProviderNotice) → GroupBytes g → get_or (provider_cases g) k None ≡ Some n
     → Provider (of k g) n
 provider_at zero g n h q = no_provider_lem g n (no_group g) refl q
 provider_at (suc zero) g n h q = provider_left g n (all_zero g) refl q
 provider_at (suc (suc zero)) g n h q = provider_there g n (provider_from g) refl h q
-provider_at (suc (suc (suc k))) g n h q = absurd (let z : ◌≡◌ {A = ℕ} 0 1 = cc in omega arith)
+provider_at (suc (suc (suc k))) g n h q = absurd (cc)
 
-pub provider_notice_read : (t : Tagged) (n : ProviderNotice) → TaggedBytes t → provider_read t ≡ ReadProvider.Read n → Provider t n
+pub provider_notice_read : (t : Tagged) (n : ProviderNotice) → TaggedBytes t → provider_read t ≡ Some n → Provider t n
 provider_notice_read t n h q = provider_at t.tag t.group n h.group q
 
 -- a consumer disconnected
 
-pub disconnected_back : (n : DisconnectedNotice) → disconnected_read (disconnected_triple n) ≡ ReadDisconnected.Read n
-disconnected_back DisconnectedNotice.None = refl
-disconnected_back (DisconnectedNotice.Some p f) = ap (disconnected_with p) (reason_read_write f)
+pub disconnected_back : (n : Option Disconnected) → disconnected_read (disconnected_triple n) ≡ Some n
+disconnected_back None = refl
+disconnected_back (Some d) = ap (disconnected_with d.port) (reason_read_write d.flags)
 
-pub disconnected_bytes : (ports : ℕ) (n : DisconnectedNotice) → ports ≤ 16 → disconnected_fits ports n ≡ true
+pub disconnected_bytes : (ports : ℕ) (n : Option Disconnected) → ports ≤ 16 → disconnected_fits ports n ≡ true
     → TripleBytes (disconnected_triple n)
-disconnected_bytes ports DisconnectedNotice.None h e = record { tag = omega arith; a = omega arith; b = omega arith }
-disconnected_bytes ports (DisconnectedNotice.Some p f) h e =
-    let k = ltb-true p ports e in
-    record { tag = omega arith; a = omega arith; b = reason_lt f }
+disconnected_bytes ports None h e = record { tag = omega arith; a = omega arith; b = omega arith }
+disconnected_bytes ports (Some d) h e =
+    let k = ltb-true d.port ports e in
+    record { tag = omega arith; a = omega arith; b = reason_lt d.flags }
 
 abbrev three : ℕ → ℕ → ℕ → Triple
 three n a b = record { tag = n; a = a; b = b }
@@ -126,78 +124,78 @@ both_zero k a b e =
     let y : b ≡ 0 = omega arith in
     λ i. three k (x i) (y i)
 
-none_left : (a b : ℕ) (n : DisconnectedNotice) (t : Bool) → eqb (a + b) 0 ≡ t
-    → cond t (ReadDisconnected.Read DisconnectedNotice.None) ReadDisconnected.Refused ≡ ReadDisconnected.Read n
+none_left : (a b : ℕ) (n : Option Disconnected) (t : Bool) → eqb (a + b) 0 ≡ t
+    → cond t (Some None) None ≡ Some n
     → three 0 a b ≡ disconnected_triple n
 none_left a b n true e q =
-    let m : DisconnectedNotice.None ≡ n = cc in
+    let m : None ≡ n = cc in
     both_zero 0 a b (eqb-true (a + b) 0 e) ∙ ap disconnected_triple m
-none_left a b n false e q = absurd (let z : ◌≡◌ {A = ℕ} 0 1 = cc in omega arith)
+none_left a b n false e q = absurd (cc)
 
-one_left : (a b : ℕ) (n : DisconnectedNotice) (o : OptionDisconnectFlags) → disconnect_from b ≡ o
-    → disconnected_with a o ≡ ReadDisconnected.Read n → three 1 a b ≡ disconnected_triple n
-one_left a b n OptionDisconnectFlags.None e q = absurd (let z : ◌≡◌ {A = ℕ} 0 1 = cc in omega arith)
-one_left a b n (OptionDisconnectFlags.Some f) e q =
-    let m : DisconnectedNotice.Some a f ≡ n = cc in
+one_left : (a b : ℕ) (n : Option Disconnected) (o : Option DisconnectFlags) → disconnect_from b ≡ o
+    → disconnected_with a o ≡ Some n → three 1 a b ≡ disconnected_triple n
+one_left a b n None e q = absurd (cc)
+one_left a b n (Some f) e q =
+    let m : Some (record { port = a; flags = f }) ≡ n = cc in
     ap (three 1 a) (reason_write_read b f e) ∙ ap disconnected_triple m
 
-disconnected_at : (k a b : ℕ) (n : DisconnectedNotice) → get_or (disconnected_cases a b) k ReadDisconnected.Refused ≡ ReadDisconnected.Read n
+disconnected_at : (k a b : ℕ) (n : Option Disconnected) → get_or (disconnected_cases a b) k None ≡ Some n
     → three k a b ≡ disconnected_triple n
 disconnected_at zero a b n q = none_left a b n (eqb (a + b) 0) refl q
 disconnected_at (suc zero) a b n q = one_left a b n (disconnect_from b) refl q
-disconnected_at (suc (suc k)) a b n q = absurd (let z : ◌≡◌ {A = ℕ} 0 1 = cc in omega arith)
+disconnected_at (suc (suc k)) a b n q = absurd (cc)
 
-pub disconnected_written : (g : Triple) (n : DisconnectedNotice) → disconnected_read g ≡ ReadDisconnected.Read n → g ≡ disconnected_triple n
+pub disconnected_written : (g : Triple) (n : Option Disconnected) → disconnected_read g ≡ Some n → g ≡ disconnected_triple n
 disconnected_written g n q = disconnected_at g.tag g.a g.b n q
 
 -- the unconstrained figures
 
 figures_back : (u : Bool) (k : ℕ)
-    → cond (leb (bit u) 1)
-    (ReadUnconstrained.Read (UnconstrainedNotice.Some (record { unconstrained = eqb (bit u) 1; available = k })))
-    ReadUnconstrained.Refused
-    ≡ ReadUnconstrained.Read (UnconstrainedNotice.Some (record { unconstrained = u; available = k }))
+    → cond {A = Option (Option UnconstrainedState)} (leb (bit u) 1)
+    (Some (Some (record { unconstrained = eqb (bit u) 1; available = k })))
+    None
+    ≡ Some (Some (record { unconstrained = u; available = k }))
 figures_back true k = refl
 figures_back false k = refl
 
-pub unconstrained_back : (n : UnconstrainedNotice) → unconstrained_read (unconstrained_triple n) ≡ ReadUnconstrained.Read n
-unconstrained_back UnconstrainedNotice.None = refl
-unconstrained_back (UnconstrainedNotice.Some u) = figures_back u.unconstrained u.available
+pub unconstrained_back : (n : Option UnconstrainedState) → unconstrained_read (unconstrained_triple n) ≡ Some n
+unconstrained_back None = refl
+unconstrained_back (Some u) = figures_back u.unconstrained u.available
 
-pub unconstrained_bytes_lem : (ports : ℕ) (n : UnconstrainedNotice) → ports ≤ 16 → unconstrained_fits ports n ≡ true
+pub unconstrained_bytes_lem : (ports : ℕ) (n : Option UnconstrainedState) → ports ≤ 16 → unconstrained_fits ports n ≡ true
     → TripleBytes (unconstrained_triple n)
-unconstrained_bytes_lem ports UnconstrainedNotice.None h e = record { tag = omega arith; a = omega arith; b = omega arith }
-unconstrained_bytes_lem ports (UnconstrainedNotice.Some u) h e =
+unconstrained_bytes_lem ports None h e = record { tag = omega arith; a = omega arith; b = omega arith }
+unconstrained_bytes_lem ports (Some u) h e =
     let k = leb-true u.available ports e in
     record { tag = omega arith; a = omega (arith, bit_le u.unconstrained); b = omega arith }
 
-none_told : (a b : ℕ) (n : UnconstrainedNotice) (t : Bool) → eqb (a + b) 0 ≡ t
-    → cond t (ReadUnconstrained.Read UnconstrainedNotice.None) ReadUnconstrained.Refused ≡ ReadUnconstrained.Read n
+none_told : (a b : ℕ) (n : Option UnconstrainedState) (t : Bool) → eqb (a + b) 0 ≡ t
+    → cond t (Some None) None ≡ Some n
     → three 0 a b ≡ unconstrained_triple n
 none_told a b n true e q =
-    let m : UnconstrainedNotice.None ≡ n = cc in
+    let m : None ≡ n = cc in
     both_zero 0 a b (eqb-true (a + b) 0 e) ∙ ap unconstrained_triple m
-none_told a b n false e q = absurd (let z : ◌≡◌ {A = ℕ} 0 1 = cc in omega arith)
+none_told a b n false e q = absurd (cc)
 
 bit_written : (n : ℕ) → n ≤ 1 → n ≡ bit (eqb n 1)
 bit_written zero h = refl
 bit_written (suc zero) h = refl
 bit_written (suc (suc n)) h = absurd (omega arith)
 
-figures_told : (a b : ℕ) (n : UnconstrainedNotice) (t : Bool) → leb a 1 ≡ t
-    → cond t (ReadUnconstrained.Read (UnconstrainedNotice.Some (record { unconstrained = eqb a 1; available = b }))) ReadUnconstrained.Refused
-    ≡ ReadUnconstrained.Read n
+figures_told : (a b : ℕ) (n : Option UnconstrainedState) (t : Bool) → leb a 1 ≡ t
+    → cond t (Some (Some (record { unconstrained = eqb a 1; available = b }))) None
+    ≡ Some n
     → three 1 a b ≡ unconstrained_triple n
 figures_told a b n true e q =
-    let m : UnconstrainedNotice.Some (record { unconstrained = eqb a 1; available = b }) ≡ n = cc in
+    let m : Some (record { unconstrained = eqb a 1; available = b }) ≡ n = cc in
     ap (λ (x : ℕ). three 1 x b) (bit_written a (leb-true a 1 e)) ∙ ap unconstrained_triple m
-figures_told a b n false e q = absurd (let z : ◌≡◌ {A = ℕ} 0 1 = cc in omega arith)
+figures_told a b n false e q = absurd (cc)
 
-unconstrained_at : (k a b : ℕ) (n : UnconstrainedNotice) → get_or (unconstrained_cases a b) k ReadUnconstrained.Refused ≡ ReadUnconstrained.Read n
+unconstrained_at : (k a b : ℕ) (n : Option UnconstrainedState) → get_or (unconstrained_cases a b) k None ≡ Some n
     → three k a b ≡ unconstrained_triple n
 unconstrained_at zero a b n q = none_told a b n (eqb (a + b) 0) refl q
 unconstrained_at (suc zero) a b n q = figures_told a b n (leb a 1) refl q
-unconstrained_at (suc (suc k)) a b n q = absurd (let z : ◌≡◌ {A = ℕ} 0 1 = cc in omega arith)
+unconstrained_at (suc (suc k)) a b n q = absurd (cc)
 
-pub unconstrained_written : (g : Triple) (n : UnconstrainedNotice) → unconstrained_read g ≡ ReadUnconstrained.Read n → g ≡ unconstrained_triple n
+pub unconstrained_written : (g : Triple) (n : Option UnconstrainedState) → unconstrained_read g ≡ Some n → g ≡ unconstrained_triple n
 unconstrained_written g n q = unconstrained_at g.tag g.a g.b n q

@@ -1,16 +1,16 @@
 -- Every number within its type, as each value of the program is: mV and mA of 16 bits, milliwatts and event numbers of 32.
-use Rattle.std.specs.Prelude.{◌≤◌, true, ◌≡◌}
+use Rattle.std.specs.Prelude.{◌≤◌, true, ◌≡◌, None, Option, Some}
 use Rattle.power_policy_interface.specs.Limits.{largest}
 use Rattle.power_policy_interface.specs.Capability.{capability_fits}
-use Rattle.interface_display.specs.declared.OptionAvailableConsumer.{OptionAvailableConsumer}
+use Rattle.interface_display.specs.declared.AvailableConsumer.{AvailableConsumer}
 use Rattle.power_policy_service.specs.Config.{ConfigFits}
 use Rattle.machine_state.specs.declared.memory.ProviderNotice.{ProviderNotice}
 use Rattle.machine_state.specs.declared.phase.Phase.{Phase}
 use Rattle.machine_service.specs.declared.Service.{Service}
 
-abbrev pub ConsumerTyped : OptionAvailableConsumer → Type 0
-ConsumerTyped OptionAvailableConsumer.None = Unit {0}
-ConsumerTyped (OptionAvailableConsumer.Some c) = capability_fits c.consumer_power_capability.capability ≡ true
+abbrev pub ConsumerTyped : Option AvailableConsumer → Type 0
+ConsumerTyped None = Unit {0}
+ConsumerTyped (Some c) = capability_fits c.consumer_power_capability.capability ≡ true
 
 abbrev pub ProviderTyped : ProviderNotice → Type 0
 ProviderTyped ProviderNotice.None = Unit {0}

@@ -1,19 +1,18 @@
 -- The services that calls lead to (promise_invariant), and that an image
 -- is to be read as (docs/STATE.md). A test, so that it can be decided.
-use Rattle.std.specs.Prelude.{ℕ, ◌+◌, ◌*◌, ◌^◌, Bool, true, false, not, ◌&&◌, ◌||◌, leb, ltb}
+use Rattle.std.specs.Prelude.{ℕ, ◌+◌, ◌*◌, ◌^◌, Bool, true, false, not, ◌&&◌, ◌||◌, leb, ltb, Err, None, Ok, Option, Result, Some}
 use Rattle.power_policy_interface.specs.Limits.{largest, max_ports, max_chargers}
 use Rattle.power_policy_interface.specs.declared.psu.Error.{Error}
-use Rattle.power_policy_interface.specs.declared.psu.OptionMismatch.{OptionMismatch}
-use Rattle.power_policy_interface.specs.declared.psu.Result.{Result}
+use Rattle.interface_display.specs.declared.AvailableConsumer.{AvailableConsumer}
+use Rattle.power_policy_interface.specs.declared.psu.Mismatch.{Mismatch}
+use Rattle.power_policy_interface.specs.declared.service.UnconstrainedState.{UnconstrainedState}
 use Rattle.interface_display.specs.Providers.{len, max_connected_providers}
-use Rattle.interface_display.specs.declared.OptionAvailableConsumer.{OptionAvailableConsumer}
 use Rattle.interface_display.specs.declared.providers.Providers.{Providers}
 use Rattle.abstract_policy.specs.declared.state.InternalState.{InternalState}
 use Rattle.abstract_policy.specs.declared.state.Registration.{Registration}
-use Rattle.machine_state.specs.declared.memory.DisconnectedNotice.{DisconnectedNotice}
+use Rattle.machine_state.specs.declared.memory.Disconnected.{Disconnected}
 use Rattle.machine_state.specs.declared.memory.Notices.{Notices}
 use Rattle.machine_state.specs.declared.memory.ProviderNotice.{ProviderNotice}
-use Rattle.machine_state.specs.declared.memory.UnconstrainedNotice.{UnconstrainedNotice}
 use Rattle.machine_state.specs.declared.phase.Leaver.{Leaver}
 use Rattle.machine_state.specs.declared.phase.Phase.{Phase}
 use Rattle.machine_state.specs.declared.phase.Stage.{Stage}
@@ -26,9 +25,9 @@ registration_fits g = leb g.ports max_ports && leb g.chargers max_chargers
 
 -- what is held: every port is registered, and at most four are tracked
 
-abbrev pub consumer_fits : ℕ → OptionAvailableConsumer → Bool
-consumer_fits ports OptionAvailableConsumer.None = true
-consumer_fits ports (OptionAvailableConsumer.Some c) = ltb c.psu ports
+abbrev pub consumer_fits : ℕ → Option AvailableConsumer → Bool
+consumer_fits ports None = true
+consumer_fits ports (Some c) = ltb c.psu ports
 
 abbrev pub providers_fit : ℕ → Providers → Bool
 providers_fit ports t = ltb t.mask (2 ^ ports) && leb (len t) max_connected_providers
@@ -40,9 +39,9 @@ state_fits ports s =
 
 -- the phase: every port and charger is registered; expected states are 1 to 15
 
-abbrev pub mismatch_fits : OptionMismatch → Bool
-mismatch_fits OptionMismatch.None = true
-mismatch_fits (OptionMismatch.Some m) = ltb 0 m.expected && leb m.expected 15
+abbrev pub mismatch_fits : Option Mismatch → Bool
+mismatch_fits None = true
+mismatch_fits (Some m) = ltb 0 m.expected && leb m.expected 15
 
 abbrev pub error_fits : Error → Bool
 error_fits Error.InvalidDevice = true
@@ -56,9 +55,9 @@ error_fits Error.Bus = true
 error_fits Error.Charger = true
 error_fits Error.Failed = true
 
-abbrev pub result_fits : Result → Bool
-result_fits Result.Ok = true
-result_fits (Result.Err e) = error_fits e
+abbrev pub result_fits : Result (Unit {0}) Error → Bool
+result_fits (Ok tt) = true
+result_fits (Err e) = error_fits e
 
 abbrev pub leaver_fits : ℕ → Leaver → Bool
 leaver_fits chargers Leaver.Psu = true
@@ -122,13 +121,13 @@ provider_fits ports ProviderNotice.None = true
 provider_fits ports (ProviderNotice.Disconnected p) = ltb p ports
 provider_fits ports (ProviderNotice.Connected p c) = ltb p ports
 
-abbrev pub disconnected_fits : ℕ → DisconnectedNotice → Bool
-disconnected_fits ports DisconnectedNotice.None = true
-disconnected_fits ports (DisconnectedNotice.Some p f) = ltb p ports
+abbrev pub disconnected_fits : ℕ → Option Disconnected → Bool
+disconnected_fits ports None = true
+disconnected_fits ports (Some d) = ltb d.port ports
 
-abbrev pub unconstrained_fits : ℕ → UnconstrainedNotice → Bool
-unconstrained_fits ports UnconstrainedNotice.None = true
-unconstrained_fits ports (UnconstrainedNotice.Some u) = leb u.available ports
+abbrev pub unconstrained_fits : ℕ → Option UnconstrainedState → Bool
+unconstrained_fits ports None = true
+unconstrained_fits ports (Some u) = leb u.available ports
 
 abbrev pub notices_fit : ℕ → Notices → Bool
 notices_fit ports n =
@@ -148,17 +147,17 @@ no_provider ProviderNotice.None = true
 no_provider (ProviderNotice.Disconnected p) = false
 no_provider (ProviderNotice.Connected p c) = false
 
-abbrev pub not_disconnected : DisconnectedNotice → Bool
-not_disconnected DisconnectedNotice.None = true
-not_disconnected (DisconnectedNotice.Some p f) = false
+abbrev pub not_disconnected : Option Disconnected → Bool
+not_disconnected None = true
+not_disconnected (Some d) = false
 
-abbrev pub no_consumer : OptionAvailableConsumer → Bool
-no_consumer OptionAvailableConsumer.None = true
-no_consumer (OptionAvailableConsumer.Some c) = false
+abbrev pub no_consumer : Option AvailableConsumer → Bool
+no_consumer None = true
+no_consumer (Some c) = false
 
-abbrev pub no_figures : UnconstrainedNotice → Bool
-no_figures UnconstrainedNotice.None = true
-no_figures (UnconstrainedNotice.Some u) = false
+abbrev pub no_figures : Option UnconstrainedState → Bool
+no_figures None = true
+no_figures (Some u) = false
 
 -- not yet of the consumer connected, nor of the figures
 abbrev pub not_connected : Notices → Bool

@@ -11,66 +11,39 @@ ghost use Rattle.bytes_service_image.specs.Image.{service_bytes, parts_from, ser
 use crate::well_formed::well_formed;
 use bytes_groups::place;
 use bytes_groups::quad::Quad;
-use bytes_service_groups::notices::{ReadNotices, put_notices, read_notices};
-use bytes_service_groups::phase::{ReadPhase, Standing, put_phase};
-use bytes_service_groups::registration::{ReadRegistration, put_head, registered_at};
-use bytes_service_groups::state::{ReadState, put_held, read_state};
+use bytes_service_groups::notices::{put_notices, read_notices};
+use bytes_service_groups::phase::{Standing, put_phase};
+use bytes_service_groups::registration::{put_head, registered_at};
+use bytes_service_groups::state::{put_held, read_state};
 use machine_service::Service;
 use machine_state::memory::Memory;
 use power_policy_interface::limits::SERVICE_IMAGE;
 
-// What reading an image finds.
-#[derive(Clone, Copy)]
-pub enum ReadService {
-    Refused,
-    Read(Service),
-}
-
 // The service that the groups make.
-fn parts(image: &[u8]) -> ReadService
+fn parts(image: &[u8]) -> Option<Service>
     ensures { result ≡ parts_from image.now }
 {
-    let ReadRegistration::Read(registration) = registered_at(image).read() else {
-        return ReadService::Refused;
-    };
-    let ReadState::Read(state) = read_state(image) else {
-        return ReadService::Refused;
-    };
-    let ReadPhase::Read(phase) = Standing::at(image).read() else {
-        return ReadService::Refused;
-    };
-    let ReadNotices::Read(notices) = read_notices(image) else {
-        return ReadService::Refused;
-    };
-    let number = Quad::at(image, 20).number();
-    let orders = place::byte(image, 36, 0);
-    let memory = Memory { state, notices };
-    ReadService::Read(Service {
-        registration,
-        number,
-        memory,
-        orders,
-        phase,
+    Some(Service {
+        registration: registered_at(image).read()?,
+        number: u32::from(Quad::at(image, 20)),
+        memory: Memory {
+            state: read_state(image)?,
+            notices: read_notices(image)?,
+        },
+        orders: place::byte(image, 36, 0),
+        phase: Standing::at(image).read()?,
     })
 }
 
 // The service of an image; refused for bytes that no well-formed service is written as.
-pub fn read(image: &[u8]) -> ReadService
+#[tactic(auto, unfolding(crate::specs::Image::service_from))]
+pub fn read(image: &[u8]) -> Option<Service>
     ensures { result ≡ service_from image.now }
 {
-    if image.len() != SERVICE_IMAGE {
-        return ReadService::Refused;
+    if image.len() != SERVICE_IMAGE || image[0] != 1 {
+        return None;
     }
-    if image[0] != 1 {
-        return ReadService::Refused;
-    }
-    let ReadService::Read(s) = parts(image) else {
-        return ReadService::Refused;
-    };
-    if well_formed(s) {
-        return ReadService::Read(s);
-    }
-    ReadService::Refused
+    parts(image).filter(|s| well_formed(*s))
 }
 
 // Writes the image of a service; bytes of another length than 67 stay.
@@ -80,13 +53,8 @@ pub fn write(image: &mut [u8], s: Service)
     if image.len() != SERVICE_IMAGE {
         return;
     }
-    let registration = s.registration;
-    let memory = s.memory;
-    let state = memory.state;
-    let notices = memory.notices;
-    let phase = s.phase;
-    put_head(image, registration, s.number);
-    put_held(image, state, s.orders);
-    put_phase(image, phase);
-    put_notices(image, notices);
+    put_head(image, s.registration, s.number);
+    put_held(image, s.memory.state, s.orders);
+    put_phase(image, s.phase);
+    put_notices(image, s.memory.notices);
 }

@@ -1,102 +1,66 @@
 // Whether a service is well formed (docs/STATE.md): a test for each part.
 ghost use Rattle.std.specs.Prelude.{◌≡◌};
-ghost use Rattle.bytes_service_image.specs.WellFormed.{registration_fits, consumer_fits, providers_fit, state_fits, mismatch_fits, error_fits, result_fits, leaver_fits, stage_fits, phase_fits, stage_least, orders_least, leaver_most, stage_most, orders_most, orders_fit, provider_fits, disconnected_fits, unconstrained_fits, notices_fit, none_connected, no_provider, not_disconnected, no_consumer, no_figures, not_connected, not_updated, nothing_told, tells, number_fits, event_fits, well_formed};
+ghost use Rattle.bytes_service_image.specs.WellFormed.{registration_fits, consumer_fits, providers_fit, state_fits, mismatch_fits, error_fits, result_fits, leaver_fits, stage_fits, phase_fits, stage_least, orders_least, leaver_most, stage_most, orders_most, orders_fit, provider_fits, disconnected_fits, unconstrained_fits, notices_fit, none_connected, no_provider, not_connected, not_updated, nothing_told, tells, number_fits, event_fits, well_formed};
 
 use abstract_policy::state::{InternalState, Registration};
-use interface_display::OptionAvailableConsumer;
+use interface_display::AvailableConsumer;
 use interface_display::providers::{MAX_CONNECTED_PROVIDERS, Providers};
 use machine_service::Service;
-use machine_service::refusals::is_waiting;
-use machine_state::memory::{DisconnectedNotice, Notices, ProviderNotice, UnconstrainedNotice};
+use machine_state::memory::{Disconnected, Notices, ProviderNotice};
 use machine_state::phase::{Leaver, Phase, Stage};
-use power_policy_interface::limits::{MAX_CHARGERS, MAX_PORTS};
+use power_policy_interface::limits::{LARGEST, MAX_CHARGERS, MAX_PORTS};
 use power_policy_interface::psu;
+use power_policy_interface::service::UnconstrainedState;
 
 fn registration_fits(g: Registration) -> bool
     ensures { result ≡ registration_fits g }
 {
-    if MAX_PORTS < g.ports {
-        return false;
-    }
-    g.chargers <= MAX_CHARGERS
+    g.ports <= MAX_PORTS && g.chargers <= MAX_CHARGERS
 }
 
-fn consumer_fits(ports: u8, c: OptionAvailableConsumer) -> bool
+fn consumer_fits(ports: u8, c: Option<AvailableConsumer>) -> bool
     ensures { result ≡ consumer_fits ports c }
 {
-    match c {
-        OptionAvailableConsumer::None => true,
-        OptionAvailableConsumer::Some(a) => a.psu < ports,
-    }
+    c.is_none_or(|a| a.psu < ports)
 }
 
 // No port is tracked past those registered, and at most four are.
 fn providers_fit(ports: u8, t: Providers) -> bool
     ensures { result ≡ providers_fit ports t }
 {
-    let mask = t.mask as u32;
-    if MAX_PORTS <= ports {
-        return t.len() <= MAX_CONNECTED_PROVIDERS;
-    }
-    if mask >> ports != 0 {
-        return false;
-    }
-    t.len() <= MAX_CONNECTED_PROVIDERS
+    (MAX_PORTS <= ports || t.mask >> ports == 0) && t.len() <= MAX_CONNECTED_PROVIDERS
 }
 
 fn state_fits(ports: u8, s: InternalState) -> bool
     ensures { result ≡ state_fits ports s }
 {
-    let c = s.current_consumer_state;
-    let u = s.unconstrained;
-    let t = s.connected_providers;
-    if !consumer_fits(ports, c) {
-        return false;
-    }
-    if ports < u.available {
-        return false;
-    }
-    providers_fit(ports, t)
+    consumer_fits(ports, s.current_consumer_state)
+        && s.unconstrained.available <= ports
+        && providers_fit(ports, s.connected_providers)
 }
 
 // Expected states are 1 to 15.
-fn mismatch_fits(m: psu::OptionMismatch) -> bool
+fn mismatch_fits(m: Option<psu::Mismatch>) -> bool
     ensures { result ≡ mismatch_fits m }
 {
-    match m {
-        psu::OptionMismatch::None => true,
-        psu::OptionMismatch::Some(x) => {
-            if x.expected == 0 {
-                return false;
-            }
-            x.expected <= 15
-        }
-    }
+    m.is_none_or(|m| 0 < m.expected && m.expected <= 15)
 }
 
 fn error_fits(e: psu::Error) -> bool
     ensures { result ≡ error_fits e }
 {
     match e {
-        psu::Error::InvalidDevice => true,
-        psu::Error::CannotProvide => true,
-        psu::Error::CannotConsume => true,
         psu::Error::InvalidState(m) => mismatch_fits(m),
-        psu::Error::InvalidResponse => true,
-        psu::Error::Busy => true,
-        psu::Error::Timeout => true,
-        psu::Error::Bus => true,
-        psu::Error::Charger => true,
-        psu::Error::Failed => true,
+        _ => true,
     }
 }
 
-fn result_fits(a: psu::Result) -> bool
+fn result_fits(a: Result<(), psu::Error>) -> bool
     ensures { result ≡ result_fits a }
 {
     match a {
-        psu::Result::Ok => true,
-        psu::Result::Err(e) => error_fits(e),
+        Ok(()) => true,
+        Err(e) => error_fits(e),
     }
 }
 
@@ -113,11 +77,8 @@ fn stage_fits(chargers: u8, s: Stage) -> bool
     ensures { result ≡ stage_fits chargers s }
 {
     match s {
-        Stage::Psu => true,
-        Stage::Settling => true,
-        Stage::Readying(i) => i < chargers,
-        Stage::Initializing(i) => i < chargers,
-        Stage::Attaching(i) => i < chargers,
+        Stage::Psu | Stage::Settling => true,
+        Stage::Readying(i) | Stage::Initializing(i) | Stage::Attaching(i) => i < chargers,
     }
 }
 
@@ -127,27 +88,11 @@ fn phase_fits(ports: u8, chargers: u8, p: Phase) -> bool
 {
     match p {
         Phase::Closed(a) => result_fits(a),
-        Phase::Leaving(i, port, _) => {
-            if chargers <= i {
-                return false;
-            }
-            port < ports
-        }
+        Phase::Leaving(i, port, _) => i < chargers && port < ports,
         Phase::Switching(l, old, _, new) => {
-            if !leaver_fits(chargers, l) {
-                return false;
-            }
-            if ports <= old {
-                return false;
-            }
-            new.psu < ports
+            leaver_fits(chargers, l) && old < ports && new.psu < ports
         }
-        Phase::Connecting(s, new) => {
-            if !stage_fits(chargers, s) {
-                return false;
-            }
-            new.psu < ports
-        }
+        Phase::Connecting(s, new) => stage_fits(chargers, s) && new.psu < ports,
         Phase::Providing(port, _) => port < ports,
     }
 }
@@ -160,9 +105,8 @@ fn stage_least(s: Stage) -> u16
     match s {
         Stage::Psu => 1,
         Stage::Settling => 2,
-        Stage::Readying(i) => 3 + (i as u16),
+        Stage::Readying(i) | Stage::Attaching(i) => 3 + (i as u16),
         Stage::Initializing(i) => 4 + (i as u16),
-        Stage::Attaching(i) => 3 + (i as u16),
     }
 }
 
@@ -171,10 +115,8 @@ fn orders_least(p: Phase) -> u16
 {
     match p {
         Phase::Closed(_) => 0,
-        Phase::Leaving(_, _, _) => 1,
-        Phase::Switching(_, _, _, _) => 1,
         Phase::Connecting(s, _) => stage_least(s),
-        Phase::Providing(_, _) => 1,
+        Phase::Leaving(_, _, _) | Phase::Switching(_, _, _, _) | Phase::Providing(_, _) => 1,
     }
 }
 
@@ -216,10 +158,7 @@ fn orders_fit(chargers: u8, p: Phase, orders: u8) -> bool
     ensures { result ≡ orders_fit chargers p orders }
 {
     let k = orders as u16;
-    if k < orders_least(p) {
-        return false;
-    }
-    k <= orders_most(chargers, p)
+    orders_least(p) <= k && k <= orders_most(chargers, p)
 }
 
 // The notices: every port is registered.
@@ -229,46 +168,29 @@ fn provider_fits(ports: u8, n: ProviderNotice) -> bool
 {
     match n {
         ProviderNotice::None => true,
-        ProviderNotice::Disconnected(p) => p < ports,
-        ProviderNotice::Connected(p, _) => p < ports,
+        ProviderNotice::Disconnected(p) | ProviderNotice::Connected(p, _) => p < ports,
     }
 }
 
-fn disconnected_fits(ports: u8, n: DisconnectedNotice) -> bool
+fn disconnected_fits(ports: u8, n: Option<Disconnected>) -> bool
     ensures { result ≡ disconnected_fits ports n }
 {
-    match n {
-        DisconnectedNotice::None => true,
-        DisconnectedNotice::Some(p, _) => p < ports,
-    }
+    n.is_none_or(|d| d.port < ports)
 }
 
-fn unconstrained_fits(ports: u8, n: UnconstrainedNotice) -> bool
+fn unconstrained_fits(ports: u8, n: Option<UnconstrainedState>) -> bool
     ensures { result ≡ unconstrained_fits ports n }
 {
-    match n {
-        UnconstrainedNotice::None => true,
-        UnconstrainedNotice::Some(u) => u.available <= ports,
-    }
+    n.is_none_or(|u| u.available <= ports)
 }
 
 fn notices_fit(ports: u8, n: Notices) -> bool
     ensures { result ≡ notices_fit ports n }
 {
-    let p = n.provider;
-    let d = n.disconnected;
-    let c = n.connected;
-    let u = n.unconstrained;
-    if !provider_fits(ports, p) {
-        return false;
-    }
-    if !disconnected_fits(ports, d) {
-        return false;
-    }
-    if !consumer_fits(ports, c) {
-        return false;
-    }
-    unconstrained_fits(ports, u)
+    provider_fits(ports, n.provider)
+        && disconnected_fits(ports, n.disconnected)
+        && consumer_fits(ports, n.connected)
+        && unconstrained_fits(ports, n.unconstrained)
 }
 
 // What an event may have told of when it stands there.
@@ -276,83 +198,31 @@ fn notices_fit(ports: u8, n: Notices) -> bool
 fn none_connected(n: ProviderNotice) -> bool
     ensures { result ≡ none_connected n }
 {
-    match n {
-        ProviderNotice::None => true,
-        ProviderNotice::Disconnected(_) => true,
-        ProviderNotice::Connected(_, _) => false,
-    }
+    !matches!(n, ProviderNotice::Connected(_, _))
 }
 
 fn no_provider(n: ProviderNotice) -> bool
     ensures { result ≡ no_provider n }
 {
-    match n {
-        ProviderNotice::None => true,
-        ProviderNotice::Disconnected(_) => false,
-        ProviderNotice::Connected(_, _) => false,
-    }
-}
-
-fn not_disconnected(n: DisconnectedNotice) -> bool
-    ensures { result ≡ not_disconnected n }
-{
-    match n {
-        DisconnectedNotice::None => true,
-        DisconnectedNotice::Some(_, _) => false,
-    }
-}
-
-fn no_consumer(c: OptionAvailableConsumer) -> bool
-    ensures { result ≡ no_consumer c }
-{
-    match c {
-        OptionAvailableConsumer::None => true,
-        OptionAvailableConsumer::Some(_) => false,
-    }
-}
-
-fn no_figures(n: UnconstrainedNotice) -> bool
-    ensures { result ≡ no_figures n }
-{
-    match n {
-        UnconstrainedNotice::None => true,
-        UnconstrainedNotice::Some(_) => false,
-    }
+    matches!(n, ProviderNotice::None)
 }
 
 fn not_connected(n: Notices) -> bool
     ensures { result ≡ not_connected n }
 {
-    let p = n.provider;
-    let c = n.connected;
-    let u = n.unconstrained;
-    if !none_connected(p) {
-        return false;
-    }
-    if !no_consumer(c) {
-        return false;
-    }
-    no_figures(u)
+    none_connected(n.provider) && n.connected.is_none() && n.unconstrained.is_none()
 }
 
 fn not_updated(n: Notices) -> bool
     ensures { result ≡ not_updated n }
 {
-    let d = n.disconnected;
-    if !not_disconnected(d) {
-        return false;
-    }
-    not_connected(n)
+    n.disconnected.is_none() && not_connected(n)
 }
 
 fn nothing_told(n: Notices) -> bool
     ensures { result ≡ nothing_told n }
 {
-    let p = n.provider;
-    if !no_provider(p) {
-        return false;
-    }
-    not_updated(n)
+    no_provider(n.provider) && not_updated(n)
 }
 
 fn tells(p: Phase, n: Notices) -> bool
@@ -360,8 +230,7 @@ fn tells(p: Phase, n: Notices) -> bool
 {
     match p {
         Phase::Closed(_) => true,
-        Phase::Leaving(_, _, _) => not_updated(n),
-        Phase::Switching(_, _, _, _) => not_updated(n),
+        Phase::Leaving(_, _, _) | Phase::Switching(_, _, _, _) => not_updated(n),
         Phase::Connecting(_, _) => not_connected(n),
         Phase::Providing(_, _) => nothing_told(n),
     }
@@ -371,50 +240,25 @@ fn tells(p: Phase, n: Notices) -> bool
 fn number_fits(p: Phase, number: u32) -> bool
     ensures { result ≡ number_fits p number }
 {
-    if is_waiting(p.order()) {
-        return number < 0xffff_ffff;
-    }
-    true
+    p.order().is_none() || number < LARGEST
 }
 
-fn event_fits(ports: u8, chargers: u8, p: Phase, number: u32, orders: u8, n: Notices) -> bool
-    ensures { result ≡ event_fits ports chargers p number orders n }
+fn event_fits(s: Service) -> bool
+    ensures { result ≡ event_fits s.registration.ports s.registration.chargers s.phase s.number s.orders s.memory.notices }
 {
-    if !phase_fits(ports, chargers, p) {
-        return false;
-    }
-    if !number_fits(p, number) {
-        return false;
-    }
-    if !orders_fit(chargers, p, orders) {
-        return false;
-    }
-    if !notices_fit(ports, n) {
-        return false;
-    }
-    tells(p, n)
+    let g = s.registration;
+    phase_fits(g.ports, g.chargers, s.phase)
+        && number_fits(s.phase, s.number)
+        && orders_fit(g.chargers, s.phase, s.orders)
+        && notices_fit(g.ports, s.memory.notices)
+        && tells(s.phase, s.memory.notices)
 }
 
+#[tactic(auto, unfolding(crate::specs::WellFormed::well_formed))]
 pub fn well_formed(s: Service) -> bool
     ensures { result ≡ well_formed s }
 {
-    let registration = s.registration;
-    let memory = s.memory;
-    let state = memory.state;
-    let notices = memory.notices;
-    let phase = s.phase;
-    if !registration_fits(registration) {
-        return false;
-    }
-    if !state_fits(registration.ports, state) {
-        return false;
-    }
-    event_fits(
-        registration.ports,
-        registration.chargers,
-        phase,
-        s.number,
-        s.orders,
-        notices,
-    )
+    registration_fits(s.registration)
+        && state_fits(s.registration.ports, s.memory.state)
+        && event_fits(s)
 }

@@ -1,5 +1,7 @@
 -- The bytes after turns: the slots past the last event applied move to the front, and zeros come in at the end.
 -- Assumes nothing.
+use Rattle.std.specs.Prelude.{None, Option, Some}
+use Rattle.std.specs.Option.{unwrap_or}
 use mathlib.Core.Path.{◌≡◌, refl, ap, sym, ◌∙◌}
 use mathlib.Core.Bool.{Bool, true, false, cond}
 use mathlib.Core.List.{List, [], ◌∷◌, ◌++◌, append_assoc}
@@ -18,8 +20,7 @@ use Rattle.desk_follower.specs.declared.held.Held.{Held}
 use Rattle.bytes_follower_image.specs.Slot.{slot_bytes, notices_from, packet_of, head_fits, zeros, slot_cases, slot_from}
 use Rattle.bytes_follower_image.specs.Held.{slots, held_bytes}
 use Rattle.bytes_follower_image.specs.Image.{showing_bytes, ImageOf, shown_head}
-use Rattle.bytes_follower_image.specs.declared.slot.ReadNotices.{ReadNotices}
-use Rattle.bytes_follower_image.specs.declared.slot.ReadSlot.{ReadSlot}
+use Rattle.interface_display.specs.declared.notices.Notices.{Notices}
 use Rattle.bytes_follower_image.proofs.Slots.{slot_length, slot_back}
 use Rattle.bytes_follower_image.proofs.Rows.{row_length}
 use Rattle.bytes_follower_image.proofs.OneImage.{fits, held_told}
@@ -127,7 +128,7 @@ module _ (b : List ℕ) (s : Picture) (h : Held) (i : ImageOf b s h) (m : ℕ) (
 -- slot k is that of the packet held
 
 pub slot_there : (b : List ℕ) (s : Picture) (h : Held) (k : ℕ) → ImageOf b s h → k < 7
-    → slot_from (s.number + 2 + k) (take 32 (drop (17 + k * 32) b)) ≡ ReadSlot.Read (held_for h (s.number + 2 + k))
+    → slot_from (s.number + 2 + k) (take 32 (drop (17 + k * 32) b)) ≡ Some (held_for h (s.number + 2 + k))
 slot_there b s h k i l =
     let f = fits (showing s h) i.fits in
     let j : ℕ = s.number + 2 + k in
@@ -143,28 +144,28 @@ slot_there b s h k i l =
 
 -- a slot of an event holds that event's packet or none
 
-numbered : (m : ℕ) (s : List ℕ) (p : EventPacket) (c : ℕ) → get_or (slot_cases m s) c ReadSlot.Refused ≡ ReadSlot.Read p → (p.number ≡ 0 → ⊥) → p.number ≡ m
+numbered : (m : ℕ) (s : List ℕ) (p : EventPacket) (c : ℕ) → get_or (slot_cases m s) c None ≡ Some p → (p.number ≡ 0 → ⊥) → p.number ≡ m
 numbered m s p zero e z = empty (zeros s) e
   where
-    empty : (t : Bool) → cond t (ReadSlot.Read none) ReadSlot.Refused ≡ ReadSlot.Read p → p.number ≡ m
+    empty : (t : Bool) → cond t (Some none) None ≡ Some p → p.number ≡ m
     empty true q = absurd (z (let y : none ≡ p = cc in ap (λ (x : EventPacket). x.number) (sym y)))
     empty false q = absurd (let y : ◌≡◌ {A = ℕ} 0 1 = cc in omega arith)
 numbered m s p (suc zero) e z = full (head_fits m (get_or s 1 0) (get_or s 2 0) (get_or s 3 0)) (notices_from (get_or s 3 0) s) e
   where
-    full : (t : Bool) (n : ReadNotices) → cond t (packet_of m (get_or s 1 0) (get_or s 2 0) n) ReadSlot.Refused ≡ ReadSlot.Read p → p.number ≡ m
-    full true ReadNotices.Refused q = absurd (let y : ◌≡◌ {A = ℕ} 0 1 = cc in omega arith)
-    full true (ReadNotices.Read n) q =
+    full : (t : Bool) (n : Option Notices) → cond t (packet_of m (get_or s 1 0) (get_or s 2 0) n) None ≡ Some p → p.number ≡ m
+    full true None q = absurd (let y : ◌≡◌ {A = ℕ} 0 1 = cc in omega arith)
+    full true (Some n) q =
         let y : record { number = m; answer = get_or s 1 0; orders = get_or s 2 0; notices = n } ≡ p = cc in
         ap (λ (x : EventPacket). x.number) (sym y)
     full false n q = absurd (let y : ◌≡◌ {A = ℕ} 0 1 = cc in omega arith)
 numbered m s p (suc (suc c)) e z = absurd (let y : ◌≡◌ {A = ℕ} 0 1 = cc in omega arith)
 
-pub slot_number : (m : ℕ) (s : List ℕ) (p : EventPacket) → slot_from m s ≡ ReadSlot.Read p → (p.number ≡ 0 → ⊥) → p.number ≡ m
+slot_number : (m : ℕ) (s : List ℕ) (p : EventPacket) → slot_from m s ≡ Some p → (p.number ≡ 0 → ⊥) → p.number ≡ m
 slot_number m s p e z = numbered m s p (get_or s 0 0) e z
 
--- one is read where an image is
-pub slot_not_refused : (m : ℕ) (s : List ℕ) (p : EventPacket) → slot_from m s ≡ ReadSlot.Read p → slot_from m s ≡ ReadSlot.Refused → ⊥
-slot_not_refused m s p e q = let x : ReadSlot.Read p ≡ ReadSlot.Refused = sym e ∙ q in let y : ◌≡◌ {A = ℕ} 0 1 = cc in omega arith
-
-pub slot_one : (m : ℕ) (s : List ℕ) (p q : EventPacket) → slot_from m s ≡ ReadSlot.Read p → slot_from m s ≡ ReadSlot.Read q → q ≡ p
-slot_one m s p q e f = let x : ReadSlot.Read q ≡ ReadSlot.Read p = sym f ∙ e in cc
+pub slot_or_none : (m : ℕ) (s : List ℕ) (p z : EventPacket) (o : Option EventPacket) → slot_from m s ≡ o → z ≡ none → p ≡ unwrap_or o z
+    → (p.number ≡ 0 → ⊥) → p.number ≡ m
+slot_or_none m s p z None e n q f = absurd (f (ap (λ (x : EventPacket). x.number) (q ∙ n)))
+slot_or_none m s p z (Some r) e n q f =
+    let w : p.number ≡ r.number = ap (λ (x : EventPacket). x.number) q in
+    w ∙ slot_number m s r e (λ v. f (w ∙ v))

@@ -1,9 +1,8 @@
 -- What bytes that are an image are read as; a lost follower's image with another floor or with a picture.
 -- Assumes nothing.
+use Rattle.std.specs.Prelude.{None, Option, Some}
 use mathlib.Core.Path.{◌≡◌, refl, ap, sym, ◌∙◌}
-use mathlib.Core.Bool.{true, false}
 use mathlib.Core.List.{List, ◌∷◌, ◌++◌}
-use mathlib.Core.Option.{Option, none, some}
 use Prim.Native.Nat.{ℕ, zero, suc, ◌+◌, ◌*◌, ◌%◌}
 use native.Mathlib.Omega.{arith}
 use lib.ListN.{length, drop, replicate, replicate-append-replicate}
@@ -15,37 +14,31 @@ use Rattle.desk_follower.specs.Held as held
 use Rattle.desk_follower.specs.Held.{nothing, held_for}
 use Rattle.desk_follower.specs.Follower.{lost, showing, at}
 use Rattle.desk_follower.specs.declared.Follower.{Follower}
-use Rattle.desk_follower.specs.declared.Shown.{Shown}
 use Rattle.desk_follower.specs.declared.held.Held.{Held}
 use Rattle.desk_follower.proofs.Kept.{none_at}
 use Rattle.bytes_groups.specs.Quad.{quad_bytes, number_quad}
 use Rattle.bytes_follower_image.specs.Slot.{slot_bytes}
 use Rattle.bytes_follower_image.specs.Held.{slots, held_bytes, held_from}
-use Rattle.bytes_follower_image.specs.Image.{lost_bytes, showing_bytes, follower_in, follower_read, follower_from, shown_of, shown_read, ImageOf, shown_head}
-use Rattle.bytes_follower_image.specs.declared.ReadShown.{ReadShown}
+use Rattle.bytes_follower_image.specs.Image.{lost_bytes, showing_bytes, follower_from, shown_read, ImageOf, shown_head}
 use Rattle.bytes_follower_image.proofs.OneImage.{fits, lost_back, held_back, follower_length_lem, follower_read_write}
 
 -- read as
 
-pub read_lost : (b : List ℕ) (floor : ℕ) → b ≡ lost_bytes floor → follower_from b ≡ record { ok = true; follower = lost floor }
-read_lost b floor e = ap follower_from e ∙ ap follower_read (lost_back floor)
+pub read_lost : (b : List ℕ) (floor : ℕ) → b ≡ lost_bytes floor → follower_from b ≡ Some (lost floor)
+read_lost b floor e = ap follower_from e ∙ lost_back floor
 
-pub read_showing : (b : List ℕ) (s : Picture) (h : Held) → ImageOf b s h → follower_from b ≡ record { ok = true; follower = showing s h }
+pub read_showing : (b : List ℕ) (s : Picture) (h : Held) → ImageOf b s h → follower_from b ≡ Some (showing s h)
 read_showing b s h i = ap follower_from i.bytes ∙ follower_read_write (showing s h) i.fits
 
-pub held_read : (b : List ℕ) (s : Picture) (h : Held) → ImageOf b s h → held_from s.number (drop 17 b) ≡ some h
+pub held_read : (b : List ℕ) (s : Picture) (h : Held) → ImageOf b s h → held_from s.number (drop 17 b) ≡ Some h
 held_read b s h i = ap (λ (l : List ℕ). held_from s.number (drop 17 l)) i.bytes ∙ held_back s h (fits (showing s h) i.fits)
 
-shown_not : (x : Shown) → ReadShown.Refused ≡ shown_of x → ⊥
-shown_not (Shown.Lost floor) e = let z : ◌≡◌ {A = ℕ} 0 1 = cc in omega arith
-shown_not (Shown.Picture s) e = let z : ◌≡◌ {A = ℕ} 0 1 = cc in omega arith
-
-pub read_refused : (b : List ℕ) → ReadShown.Refused ≡ shown_read (follower_in b) → (follower_from b).ok ≡ false
-read_refused b e = by (follower_in b) e
+pub read_refused : (b : List ℕ) → None ≡ shown_read (follower_from b) → follower_from b ≡ None
+read_refused b e = by (follower_from b) e
   where
-    by : (o : Option Follower) → ReadShown.Refused ≡ shown_read o → (follower_read o).ok ≡ false
-    by none q = refl
-    by (some f) q = absurd (shown_not f.shown q)
+    by : (o : Option Follower) → None ≡ shown_read o → o ≡ None
+    by None q = refl
+    by (Some f) q = absurd (let z : ◌≡◌ {A = ℕ} 0 1 = cc in omega arith)
 
 pub image_length : (b : List ℕ) (s : Picture) (h : Held) → ImageOf b s h → length b ≡ 241
 image_length b s h i = ap length i.bytes ∙ follower_length_lem (showing s h)

@@ -1,5 +1,6 @@
 -- With nothing held none follows in turn; and beyond what is held a packet's own number is the floor.
 -- Assumes nothing.
+use Rattle.std.specs.Prelude.{Some}
 use mathlib.Core.Path.{◌≡◌, refl, ap, sym, ◌∙◌}
 use mathlib.Core.Bool.{Bool, true, false, cond}
 use mathlib.Core.Logic.{⊎_elim}
@@ -21,7 +22,6 @@ use Rattle.desk_follower.specs.declared.held.Held.{Held}
 use Rattle.desk_follower.proofs.Kept.{none_at}
 use Rattle.desk_follower.proofs.Laws.{event_beyond, greatest_base, greatest_le}
 use Rattle.bytes_take.specs.Turned.{turned, dropped_to, outcome}
-use Rattle.bytes_take.specs.declared.turn.OptionPicture.{OptionPicture}
 
 nothing_number : (i : ℕ) → (packet_at nothing i).number ≡ 0
 nothing_number i = ap (λ (p : EventPacket). p.number) (none_at 8 i)
@@ -37,7 +37,7 @@ none_follows m =
     ne_eqb (packet_at nothing ((m + 1) % 8)).number (m + 1) z
 
 -- nothing follows in turn
-turned_nothing : (k n : ℕ) (d : Display) → turned k n d nothing ≡ OptionPicture.Some (at n d)
+turned_nothing : (k n : ℕ) (d : Display) → turned k n d nothing ≡ Some (at n d)
 unfolding turned
 turned_nothing zero n d = refl
 turned_nothing (suc k) n d = rw (none_follows n)

@@ -1,6 +1,7 @@
 -- Held packets in turn, with what is held left as it is: the events that follow have places of their own, so that dropping one changes none of those to come;
 -- afterwards the slots past the last one applied are as they were, and those past the eighth event are empty.
 -- Assumes nothing.
+use Rattle.std.specs.Prelude.{None, Option, Some}
 use mathlib.Core.Path.{◌≡◌, refl, ap, sym, subst, ◌∙◌}
 use mathlib.Core.Bool.{Bool, true, false, cond}
 use mathlib.Core.Logic.{◌⊎◌, inl, inr, ⊎_elim}
@@ -28,7 +29,6 @@ use Rattle.desk_follower.proofs.Floor.{placed_floor}
 use Rattle.bytes_follower_image.proofs.Rows.{owner, owned}
 use Rattle.bytes_follower_image.proofs.OneImage.{held_next_lem}
 use Rattle.bytes_take.specs.Turned.{turned, dropped_to, outcome}
-use Rattle.bytes_take.specs.declared.turn.OptionPicture.{OptionPicture}
 
 -- a place that none of the events to come has does not matter
 
@@ -45,30 +45,30 @@ turned_put (suc k) m d h j p f =
     go : (y : EventPacket) → y ≡ held_for h (m + 1)
         → ((x : EventPacket) → turned k (m + 1) (all_applied x.notices d) (put h j p) ≡ turned k (m + 1) (all_applied x.notices d) h)
         → cond (eqb y.number (m + 1))
-        (cond (eqb y.answer 0) (turned k (m + 1) (all_applied y.notices d) (put h j p)) OptionPicture.None)
-        (OptionPicture.Some (at m d))
+        (cond (eqb y.answer 0) (turned k (m + 1) (all_applied y.notices d) (put h j p)) None)
+        (Some (at m d))
         ≡ cond (eqb (held_for h (m + 1)).number (m + 1))
-        (cond (eqb (held_for h (m + 1)).answer 0) (turned k (m + 1) (all_applied (held_for h (m + 1)).notices d) h) OptionPicture.None)
-        (OptionPicture.Some (at m d))
+        (cond (eqb (held_for h (m + 1)).answer 0) (turned k (m + 1) (all_applied (held_for h (m + 1)).notices d) h) None)
+        (Some (at m d))
     go y q r =
         ap (λ (z : EventPacket).
-        cond (eqb z.number (m + 1)) (cond (eqb z.answer 0) (turned k (m + 1) (all_applied z.notices d) (put h j p)) OptionPicture.None)
-        (OptionPicture.Some (at m d))) q
-        ∙ ap (λ (z : OptionPicture).
-        cond (eqb (held_for h (m + 1)).number (m + 1)) (cond (eqb (held_for h (m + 1)).answer 0) z OptionPicture.None) (OptionPicture.Some (at m d)))
+        cond (eqb z.number (m + 1)) (cond (eqb z.answer 0) (turned k (m + 1) (all_applied z.notices d) (put h j p)) None)
+        (Some (at m d))) q
+        ∙ ap (λ (z : Option Picture).
+        cond (eqb (held_for h (m + 1)).number (m + 1)) (cond (eqb (held_for h (m + 1)).answer 0) z None) (Some (at m d)))
         (r (held_for h (m + 1)))
 
 -- the number does not fall
 
-abbrev pub Grows : ℕ → OptionPicture → Type 0
-Grows m OptionPicture.None = Unit {0}
-Grows m (OptionPicture.Some p) = m ≤ p.number
+abbrev pub Grows : ℕ → Option Picture → Type 0
+Grows m None = Unit {0}
+Grows m (Some p) = m ≤ p.number
 
-less : (m : ℕ) (o : OptionPicture) → Grows (m + 1) o → Grows m o
-less m OptionPicture.None g = tt
-less m (OptionPicture.Some p) g = omega (arith, g)
+less : (m : ℕ) (o : Option Picture) → Grows (m + 1) o → Grows m o
+less m None g = tt
+less m (Some p) g = omega (arith, g)
 
-grows_at : (m : ℕ) (d : Display) (o : OptionPicture) (a b : Bool) → Grows m o → Grows m (cond a (cond b o OptionPicture.None) (OptionPicture.Some (at m d)))
+grows_at : (m : ℕ) (d : Display) (o : Option Picture) (a b : Bool) → Grows m o → Grows m (cond a (cond b o None) (Some (at m d)))
 grows_at m d o true true g = g
 grows_at m d o true false g = tt
 grows_at m d o false b g = omega arith
@@ -80,7 +80,7 @@ turned_grows (suc k) m d h =
     let d' = all_applied (held_for h (m + 1)).notices d in
     grows_at m d (turned k (m + 1) d' h) (holds h (m + 1)) (eqb (held_for h (m + 1)).answer 0) (less m (turned k (m + 1) d' h) (turned_grows k (m + 1) d' h))
 
-pub some_above : (n : ℕ) (p q : Picture) → n < p.number → OptionPicture.Some p ≡ OptionPicture.Some q → n < q.number
+pub some_above : (n : ℕ) (p q : Picture) → n < p.number → Some p ≡ Some q → n < q.number
 some_above n p q l e =
     let z : p ≡ q = cc in
     let a : p.number ≡ q.number = ap (λ (x : Picture). x.number) z in
@@ -88,14 +88,14 @@ some_above n p q l e =
 
 -- what is held then
 
-later : (f m : ℕ) (h : Held) (o : OptionPicture) → Grows (m + 1) o → outcome f o (m + 1) (dropped h (m + 1)) ≡ outcome f o m h
-later f m h OptionPicture.None g = refl
-later f m h (OptionPicture.Some p) g =
+later : (f m : ℕ) (h : Held) (o : Option Picture) → Grows (m + 1) o → outcome f o (m + 1) (dropped h (m + 1)) ≡ outcome f o m h
+later f m h None g = refl
+later f m h (Some p) g =
     let e : p.number - m ≡ suc (p.number - (m + 1)) = omega (arith, g) in
     ap (λ (j : ℕ). showing p (dropped_to j m h)) (sym e)
 
-turn_at : (f m : ℕ) (d : Display) (h : Held) (x : Follower) (o : OptionPicture) (a b : Bool) → x ≡ outcome f o m h
-    → cond a (cond b x (lost f)) (showing (at m d) h) ≡ outcome f (cond a (cond b o OptionPicture.None) (OptionPicture.Some (at m d))) m h
+turn_at : (f m : ℕ) (d : Display) (h : Held) (x : Follower) (o : Option Picture) (a b : Bool) → x ≡ outcome f o m h
+    → cond a (cond b x (lost f)) (showing (at m d) h) ≡ outcome f (cond a (cond b o None) (Some (at m d))) m h
 turn_at f m d h x o true true e = e
 turn_at f m d h x o true false e = refl
 turn_at f m d h x o false b e =
@@ -114,7 +114,7 @@ turn_outcome (suc k) f m d h l =
     turned_put k (m + 1) d' h ((m + 1) % 8) none (λ i a b e. omega (arith, l, a, b, e)) in
     turn_at f m d h (in_turn k f (m + 1) d' g) (turned k (m + 1) d' h) (holds h (m + 1)) (eqb (held_for h (m + 1)).answer 0)
     (turn_outcome k f (m + 1) d' g (omega (arith, l))
-    ∙ (ap (λ (o : OptionPicture). outcome f o (m + 1) g) same ∙ later f m h (turned k (m + 1) d' h) (turned_grows k (m + 1) d' h)))
+    ∙ (ap (λ (o : Option Picture). outcome f o (m + 1) g) same ∙ later f m h (turned k (m + 1) d' h) (turned_grows k (m + 1) d' h)))
 
 -- packets at or below a number that is passed do not matter
 
@@ -131,15 +131,15 @@ module _ (m0 : ℕ) (h : Held) (size : length h.packets ≡ 8) where
       ((seen m0 8 h size (omega arith)).1 ((m + 1) % 8) (mod8 (m + 1))) in
       inr (ne_eqb _ _ z, t)
 
-  abbrev step : ℕ → ℕ → Display → EventPacket → Held → OptionPicture
+  abbrev step : ℕ → ℕ → Display → EventPacket → Held → Option Picture
   step k m d x g =
-      cond (eqb x.number (m + 1)) (cond (eqb x.answer 0) (turned k (m + 1) (all_applied x.notices d) g) OptionPicture.None) (OptionPicture.Some (at m d))
+      cond (eqb x.number (m + 1)) (cond (eqb x.answer 0) (turned k (m + 1) (all_applied x.notices d) g) None) (Some (at m d))
 
   left_at : (k m : ℕ) (d : Display) (g : Held) (x y : EventPacket) → (x ≡ y) ⊎ ((eqb x.number (m + 1) ≡ false) × (eqb y.number (m + 1) ≡ false))
       → ((d' : Display) → turned k (m + 1) d' g ≡ turned k (m + 1) d' h) → step k m d x g ≡ step k m d y h
   left_at k m d g x y (inl e) r =
       ap (λ (z : EventPacket). step k m d z g) e
-      ∙ ap (λ (o : OptionPicture). cond (eqb y.number (m + 1)) (cond (eqb y.answer 0) o OptionPicture.None) (OptionPicture.Some (at m d)))
+      ∙ ap (λ (o : Option Picture). cond (eqb y.number (m + 1)) (cond (eqb y.answer 0) o None) (Some (at m d)))
       (r (all_applied y.notices d))
   left_at k m d g x y (inr e) r = rw (e.0, e.1)
 
@@ -178,10 +178,10 @@ module _ (hi : ℕ) (h : Held) (most : (i : ℕ) → i < 8 → (packet_at h i).n
       let z : (held_for h (m + 1)).number ≡ m + 1 → ⊥ = λ e. omega (arith, l, e, most ((m + 1) % 8) (mod8 (m + 1))) in
       rw (ne_eqb (held_for h (m + 1)).number (m + 1) z)
   turned_fuel (suc k) m d l =
-      ap (λ (o : OptionPicture). cond (holds h (m + 1)) (cond (eqb (held_for h (m + 1)).answer 0) o OptionPicture.None) (OptionPicture.Some (at m d)))
+      ap (λ (o : Option Picture). cond (holds h (m + 1)) (cond (eqb (held_for h (m + 1)).answer 0) o None) (Some (at m d)))
       (turned_fuel k (m + 1) (all_applied (held_for h (m + 1)).notices d) (omega (arith, l)))
 
-  pub turned_end : (k m : ℕ) (d : Display) → hi ≤ m → turned k m d h ≡ OptionPicture.Some (at m d)
+  pub turned_end : (k m : ℕ) (d : Display) → hi ≤ m → turned k m d h ≡ Some (at m d)
   unfolding turned
   turned_end zero m d l = refl
   turned_end (suc k) m d l =
@@ -191,11 +191,11 @@ module _ (hi : ℕ) (h : Held) (most : (i : ℕ) → i < 8 → (packet_at h i).n
 -- one turn, by the packet of the next event
 
 module _ (k m : ℕ) (d : Display) (h : Held) where
-  pub turned_stop : (held_for h (m + 1)).number ≡ 0 → turned (suc k) m d h ≡ OptionPicture.Some (at m d)
+  pub turned_stop : (held_for h (m + 1)).number ≡ 0 → turned (suc k) m d h ≡ Some (at m d)
   unfolding turned
   turned_stop e = rw (ne_eqb (held_for h (m + 1)).number (m + 1) (λ z. omega (arith, e, z)))
 
-  pub turned_error : (held_for h (m + 1)).number ≡ m + 1 → ((held_for h (m + 1)).answer ≡ 0 → ⊥) → turned (suc k) m d h ≡ OptionPicture.None
+  pub turned_error : (held_for h (m + 1)).number ≡ m + 1 → ((held_for h (m + 1)).answer ≡ 0 → ⊥) → turned (suc k) m d h ≡ None
   unfolding turned
   turned_error e z = rw (eq-eqb (held_for h (m + 1)).number (m + 1) e, ne_eqb (held_for h (m + 1)).answer 0 z)
 

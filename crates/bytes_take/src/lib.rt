@@ -3,7 +3,7 @@
 
 pub mod turn;
 
-ghost use Rattle.std.specs.Prelude.{◌≡◌, true, cond, ◌++◌, ◌+◌, ◌*◌, ◌-◌, ◌<◌, min, eqb, length, get_or, take, drop, replicate};
+ghost use Rattle.std.specs.Prelude.{◌≡◌, cond, ◌++◌, ◌+◌, ◌*◌, ◌-◌, ◌<◌, min, eqb, length, get_or, take, drop, replicate};
 ghost use Rattle.std.proofs.lemmas.List.Edits.{sets};
 ghost use Rattle.power_policy_interface.specs.Limits.{window, follower_length};
 ghost use Rattle.interface_display.specs.declared.packet.Packet.{Packet};
@@ -14,16 +14,17 @@ ghost use Rattle.desk_follower.specs.declared.Shown.{Shown};
 ghost use Rattle.desk_follower.specs.declared.held.Held.{Held};
 ghost use Rattle.bytes_follower_image.specs.Slot.{slot_bytes};
 ghost use Rattle.bytes_follower_image.specs.Image.{lost_bytes, follower_bytes, follower_from, ImageOf, shown_head};
-ghost use Rattle.bytes_take.specs.Taken.{none_in, taken_image};
+ghost use Rattle.bytes_take.specs.Taken.{none_in, taken_answer, taken_image};
 ghost use Rattle.bytes_take.specs.Turned.{turned, outcome};
 
-use crate::turn::{OptionPicture, drop_slots, greatest, in_turn};
-use bytes_follower_image::{ReadShown, put_head, put_shown, read_shown, slot, write_lost};
+use crate::turn::{drop_slots, greatest, in_turn};
+use bytes_follower_image::{put_head, put_shown, read_shown, slot, write_lost};
 use bytes_groups::place;
-use desk_follower::held::greater;
+use desk_follower::Shown;
 use interface_display::State;
 use interface_display::packet::{EventPacket, Packet, Picture};
 use power_policy_interface::limits::WINDOW;
+use power_policy_interface::refusal::Refusal;
 
 // Whether no slot holds a packet.
 fn none_held(image: &[u8]) -> bool
@@ -44,15 +45,11 @@ fn take_lost(image: &mut [u8], floor: u32, p: Packet)
     ensures { image.old ≡ lost_bytes floor → image.new ≡ follower_bytes (taken (lost floor) p) }
 {
     match p {
-        Packet::Event(e) => {
-            put_head(image, 0, greater(floor, e.number));
-        }
+        Packet::Event(e) => put_head(image, 0, floor.max(e.number)),
         Packet::Picture(v) => {
-            if v.number < floor {
-                return;
+            if floor <= v.number {
+                put_shown(image, v);
             }
-            let display = v.display;
-            put_shown(image, v.number, display);
         }
     }
 }
@@ -62,8 +59,7 @@ fn hold(image: &mut [u8], at: usize, e: EventPacket)
     ensures { image.new ≡ cond (eqb (get_or image.old at 0) 0) (sets image.old at (slot_bytes e)) image.old }
 {
     if place::byte(image, at, 0) == 0 {
-        let b = slot::bytes(e);
-        place::put(image, at, &b);
+        place::put(image, at, &slot::bytes(e));
     }
 }
 
@@ -73,8 +69,7 @@ fn show_after(image: &mut [u8], n: u32, q: Picture)
     ensures { image.new ≡ sets (take 17 image.old ++ (drop (17 + (q.number - n) * 32) image.old ++ replicate (min 224 ((q.number - n) * 32)) 0)) 0 (shown_head q.number q.display) }
 {
     drop_slots(image, q.number - n);
-    let display = q.display;
-    put_shown(image, q.number, display);
+    put_shown(image, q);
 }
 
 // A picture above the one shown, and the packets that follow it in turn. With nothing held none does.
@@ -83,18 +78,15 @@ fn advance(image: &mut [u8], s: Picture, p: Picture)
     ensures { (h : Held) → ImageOf image.old s h → image.new ≡ follower_bytes (outcome (greatest p.number window h) (turned window p.number p.display h) p.number (above p.number window h)) }
 {
     if none_held(image) {
-        let display = p.display;
-        put_shown(image, p.number, display);
+        put_shown(image, p);
         return;
     }
     match in_turn(image, s.number, p) {
-        OptionPicture::None => {
+        None => {
             let floor = greatest(image, s.number, p.number);
             write_lost(image, floor);
         }
-        OptionPicture::Some(q) => {
-            show_after(image, s.number, q);
-        }
+        Some(q) => show_after(image, s.number, q),
     }
 }
 
@@ -108,9 +100,7 @@ fn take_next(image: &mut [u8], s: Picture, e: EventPacket)
         write_lost(image, floor);
         return;
     }
-    let notices = e.notices;
-    let shown = s.display;
-    let display = notices.apply(shown);
+    let display = e.notices.apply(s.display);
     let p = Picture {
         number: e.number,
         display,
@@ -123,21 +113,19 @@ fn take_event(image: &mut [u8], s: Picture, e: EventPacket)
     requires { length image.old ≡ follower_length }
     ensures { (h : Held) → ImageOf image.old s h → image.new ≡ follower_bytes (taken_at (Shown.Picture s) h (Packet.Event e)) }
 {
-    let n = s.number;
-    let number = e.number;
-    if number <= n {
+    if e.number <= s.number {
         return;
     }
-    let ahead = number - n;
+    let ahead = e.number - s.number;
     if WINDOW < ahead {
-        write_lost(image, number);
+        write_lost(image, e.number);
         return;
     }
     if ahead == 1 {
         take_next(image, s, e);
         return;
     }
-    hold(image, 17 + 32 * ((ahead - 2) as usize), e);
+    hold(image, 17 + 32 * (ahead - 2) as usize, e);
 }
 
 // Showing: a picture numbered above n is shown, another is dropped.
@@ -145,10 +133,9 @@ fn take_picture(image: &mut [u8], s: Picture, p: Picture)
     requires { length image.old ≡ follower_length }
     ensures { (h : Held) → ImageOf image.old s h → image.new ≡ follower_bytes (taken_at (Shown.Picture s) h (Packet.Picture p)) }
 {
-    if p.number <= s.number {
-        return;
+    if s.number < p.number {
+        advance(image, s, p);
     }
-    advance(image, s, p);
 }
 
 // Showing: an event packet or a picture.
@@ -157,33 +144,21 @@ fn take_shown(image: &mut [u8], s: Picture, p: Packet)
     ensures { (h : Held) → ImageOf image.old s h → image.new ≡ follower_bytes (taken_at (Shown.Picture s) h p) }
 {
     match p {
-        Packet::Event(e) => {
-            take_event(image, s, e);
-        }
-        Packet::Picture(v) => {
-            take_picture(image, s, v);
-        }
+        Packet::Event(e) => take_event(image, s, e),
+        Packet::Picture(v) => take_picture(image, s, v),
     }
 }
 
-// Takes a packet or picture; false for bytes that are no follower's image, which stay.
-pub fn take(image: &mut [u8], p: Packet) -> bool
-    ensures value { result ≡ (follower_from image.old).ok }
+// Takes a packet or picture; bytes that are no follower's image are refused, and stay.
+pub fn take(image: &mut [u8], p: Packet) -> Result<(), Refusal>
+    ensures value { result ≡ taken_answer (follower_from image.old) }
     ensures image_after { image.new ≡ taken_image image.old p }
 {
-    match read_shown(image) {
-        ReadShown::Refused => {
-            return false;
-        }
-        ReadShown::Lost(floor) => {
-            take_lost(image, floor, p);
-            return true;
-        }
-        ReadShown::Picture(s) => {
-            take_shown(image, s, p);
-            return true;
-        }
+    match read_shown(image).ok_or(Refusal::Image)? {
+        Shown::Lost(floor) => take_lost(image, floor, p),
+        Shown::Picture(s) => take_shown(image, s, p),
     }
+    Ok(())
 }
 
 // Showing: level, or waiting with something held.
@@ -191,7 +166,8 @@ pub fn state(image: &[u8]) -> State
     ensures { result ≡ cond (none_in image.now) State.Level State.Waiting }
 {
     if none_held(image) {
-        return State::Level;
+        State::Level
+    } else {
+        State::Waiting
     }
-    State::Waiting
 }

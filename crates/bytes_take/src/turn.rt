@@ -1,6 +1,5 @@
 // The packets in the slots that follow in turn. Slot k is that of the event two and k above the number shown.
 ghost use Rattle.std.specs.Prelude.{◌≡◌, ◌++◌, ◌+◌, ◌*◌, ◌-◌, ◌≤◌, ◌<◌, min, length, take, drop, replicate};
-ghost use Rattle.std.proofs.lemmas.List.Edits.{sets};
 ghost use Rattle.power_policy_interface.specs.Limits.{window, follower_length};
 ghost use Rattle.desk_follower.specs.declared.held.Held.{Held};
 ghost use Rattle.desk_follower.specs.Held.{held_for, greatest};
@@ -8,18 +7,10 @@ ghost use Rattle.bytes_follower_image.specs.Image.{ImageOf};
 ghost use Rattle.bytes_take.specs.Turned.{turned};
 
 use bytes_follower_image::slot;
-use bytes_follower_image::slot::ReadSlot;
 use bytes_groups::place;
-use desk_follower::held::{greater, no_packet};
+use desk_follower::held::no_packet;
 use interface_display::packet::{EventPacket, Picture};
 use power_policy_interface::limits::{FOLLOWER_IMAGE, WINDOW};
-
-// Option<Picture>.
-#[derive(Clone, Copy)]
-pub enum OptionPicture {
-    None,
-    Some(Picture),
-}
 
 // The packet in slot k, that of an event; number 0 if none is held there.
 fn held_at(image: &[u8], k: usize, event: u64) -> EventPacket
@@ -28,33 +19,30 @@ fn held_at(image: &[u8], k: usize, event: u64) -> EventPacket
     ensures number_value { (result.number ≡ 0 → ⊥) → result.number ≡ event }
 {
     let at = 17 + k * 32;
-    match slot::read(&image[at..at + 32], event) {
-        ReadSlot::Refused => no_packet(),
-        ReadSlot::Read(p) => p,
-    }
+    slot::read(&image[at..at + 32], event).unwrap_or(no_packet())
 }
 
 // A picture after the packets that follow it in turn, in an image that shows n; none where one has an error.
-pub(crate) fn in_turn(image: &[u8], n: u32, p: Picture) -> OptionPicture
+pub(crate) fn in_turn(image: &[u8], n: u32, p: Picture) -> Option<Picture>
     requires { (length image.now ≡ follower_length) × (n < p.number) }
     ensures value { (s : Picture) (h : Held) → ImageOf image.now s h → s.number ≡ n → result ≡ turned window p.number p.display h }
-    ensures n_lt_number { (q : Picture) → result ≡ OptionPicture.Some q → n < q.number }
+    ensures n_lt_number { (q : Picture) → result ≡ Some q → n < q.number }
 {
     let mut number = p.number;
     let mut display = p.display;
+    // It goes by the number that the packets reach; a `for` would count the slots beside it.
     while number - n < WINDOW {
-        let q = held_at(image, (number - n - 1) as usize, (number as u64) + 1);
+        let q = held_at(image, (number - n - 1) as usize, number as u64 + 1);
         if q.number == 0 {
             break;
         }
         if q.answer != 0 {
-            return OptionPicture::None;
+            return None;
         }
-        let notices = q.notices;
-        display = notices.apply(display);
+        display = q.notices.apply(display);
         number = q.number;
     }
-    OptionPicture::Some(Picture { number, display })
+    Some(Picture { number, display })
 }
 
 // The number of the packet in slot k, that of an event; 0 if none is held there. The slot's first byte tells.
@@ -77,41 +65,10 @@ pub(crate) fn greatest(image: &[u8], n: u32, number: u32) -> u32
     ensures { (s : Picture) (h : Held) → ImageOf image.now s h → s.number ≡ n → result ≡ greatest number window h }
 {
     let mut most = number;
-    let mut event = (n as u64) + 2;
-    let mut k: usize = 0;
-    while k < 7 {
-        let q = number_at(image, k, event);
-        most = greater(most, q);
-        event += 1;
-        k += 1;
+    for k in 0..7usize {
+        most = most.max(number_at(image, k, n as u64 + 2 + k as u64));
     }
     most
-}
-
-// Moves the slots to the front by so many bytes; the last bytes stay.
-fn move_front(image: &mut [u8], by: usize)
-    requires { (length image.old ≡ follower_length) × (by ≤ 224) }
-    ensures { image.new ≡ take 17 image.old ++ (drop (17 + by) image.old ++ drop (follower_length - by) image.old) }
-{
-    let end = FOLLOWER_IMAGE - by;
-    let mut i: usize = 17;
-    while i < end {
-        let b = image[i + by];
-        image[i] = b;
-        i += 1;
-    }
-}
-
-// Zeros from a place to the end.
-fn clear(image: &mut [u8], at: usize)
-    requires { (length image.old ≡ follower_length) × (at ≤ follower_length) }
-    ensures { image.new ≡ sets image.old at (replicate (follower_length - at) 0) }
-{
-    let mut i = at;
-    while i < FOLLOWER_IMAGE {
-        image[i] = 0;
-        i += 1;
-    }
 }
 
 // Moves the slots to the front by so many bytes; zeros come in at the end.
@@ -119,8 +76,8 @@ fn move_slots(image: &mut [u8], by: usize)
     requires { (length image.old ≡ follower_length) × (by ≤ 224) }
     ensures { image.new ≡ take 17 image.old ++ (drop (17 + by) image.old ++ replicate by 0) }
 {
-    move_front(image, by);
-    clear(image, FOLLOWER_IMAGE - by);
+    image.copy_within(17 + by.., 17);
+    image[FOLLOWER_IMAGE - by..].fill(0);
 }
 
 // Drops so many slots from the front; at least seven are all.
@@ -129,9 +86,8 @@ pub(crate) fn drop_slots(image: &mut [u8], count: u32)
     ensures { image.new ≡ take 17 image.old ++ (drop (17 + count * 32) image.old ++ replicate (min 224 (count * 32)) 0) }
 {
     if 7 <= count {
-        let z = [0u8; 224];
-        place::put(image, 17, &z);
-        return;
+        place::put(image, 17, &[0; 224]);
+    } else {
+        move_slots(image, count as usize * 32);
     }
-    move_slots(image, (count as usize) * 32);
 }

@@ -26,7 +26,7 @@ use Rattle.desk_follower.proofs.Kept.{none_at}
 either : (a b : Bool) → (a || b) ≡ true → (a ≡ true) ⊎ (b ≡ true)
 either true b e = inl refl
 either false true e = inr refl
-either false false e = absurd (let z : ◌≡◌ {A = ℕ} 0 1 = cc in omega arith)
+either false false e = absurd (cc)
 
 or_right : (a b : Bool) → b ≡ true → (a || b) ≡ true
 or_right true b e = refl

@@ -1,9 +1,9 @@
 -- P12: the five takes of the example (PRG-7), computed by the definitions.
 -- Assumes nothing.
+use Rattle.std.specs.Prelude.{None, Option, Some, ℕ}
 use mathlib.Core.Path.{◌≡◌, refl}
 use mathlib.Core.List.{List, [], ◌∷◌}
 use mathlib.Core.Bool.{false}
-use Rattle.power_policy_interface.specs.declared.capability.OptionPsuType.{OptionPsuType}
 use Rattle.power_policy_interface.specs.declared.capability.PsuType.{PsuType}
 use Rattle.power_policy_interface.specs.declared.service.event.Event as notice
 use Rattle.interface_display.specs.Display.{fresh}
@@ -13,7 +13,6 @@ use Rattle.interface_display.specs.declared.State.{State}
 use Rattle.desk_follower.specs.Follower as follower
 use Rattle.desk_follower.specs.Held.{none_held, greatest, above}
 use Rattle.desk_follower.specs.declared.Follower.{Follower}
-use Rattle.desk_follower.specs.declared.OptionNumber.{OptionNumber}
 
 -- 02 00 00 00 00 00: the picture of a fresh service
 abbrev picture0 : Packet
@@ -36,7 +35,7 @@ event1 =
           (notice.Event.ConsumerConnected 1
           (record {
             capability = record { voltage_mv = 20000; current_ma = 3000 };
-            flags = record { unconstrained_power = false; psu_type = OptionPsuType.Some PsuType.TypeC };
+            flags = record { unconstrained_power = false; psu_type = Some PsuType.TypeC };
           }));
     })
 
@@ -46,10 +45,10 @@ event3 = Packet.Event (record { number = 3; answer = 7; orders = 1; notices = em
 
 -- a line of `follow`: n, state, consumer port, its mW
 record Line : Type 0 where
-  n : OptionNumber
+  n : Option ℕ
   state : State
-  port : OptionNumber
-  mw : OptionNumber
+  port : Option ℕ
+  mw : Option ℕ
 
 abbrev line : Follower → Line
 line f =
@@ -66,11 +65,11 @@ lines f [] = []
 lines f (p ∷ l) = line (follower.taken f p) ∷ lines (follower.taken f p) l
 
 pub P12 : lines follower.fresh (picture0 ∷ event2 ∷ event1 ∷ event1 ∷ event3 ∷ [])
-    ≡ record { n = OptionNumber.Some 0; state = State.Level; port = OptionNumber.None; mw = OptionNumber.None }
-    ∷ record { n = OptionNumber.Some 0; state = State.Waiting; port = OptionNumber.None; mw = OptionNumber.None }
-    ∷ record { n = OptionNumber.Some 2; state = State.Level; port = OptionNumber.Some 1; mw = OptionNumber.Some 60000 }
-    ∷ record { n = OptionNumber.Some 2; state = State.Level; port = OptionNumber.Some 1; mw = OptionNumber.Some 60000 }
-    ∷ record { n = OptionNumber.None; state = State.Lost; port = OptionNumber.None; mw = OptionNumber.None }
+    ≡ record { n = Some 0; state = State.Level; port = None; mw = None }
+    ∷ record { n = Some 0; state = State.Waiting; port = None; mw = None }
+    ∷ record { n = Some 2; state = State.Level; port = Some 1; mw = Some 60000 }
+    ∷ record { n = Some 2; state = State.Level; port = Some 1; mw = Some 60000 }
+    ∷ record { n = None; state = State.Lost; port = None; mw = None }
     ∷ []
 unfolding none_held greatest above follower.in_turn
 P12 = refl

@@ -25,8 +25,7 @@ use Rattle.desk_follower.proofs.Kept.{seen}
 never : {A : Type 0} (s : Picture) (h : Held) (f : ℕ) → showing s h ≡ lost f → A
 never s h f e =
     let q : Shown.Picture s ≡ Shown.Lost f = ap (λ (x : Follower). x.shown) e in
-    let z : ◌≡◌ {A = ℕ} 0 1 = cc in
-    absurd (omega arith)
+    absurd (cc)
 
 -- in turn, the floor is the greatest of the number shown and those held then
 pub settled_floor : (s : Picture) (h : Held) (f : ℕ) → settled s h ≡ lost f → f ≡ greatest s.number 8 h

@@ -124,8 +124,7 @@ turn_held : (n : ℕ) (x : Follower) (a : Bool) (g : ℕ) (d : Display) (h : Hel
 turn_held n x true g d h e k = eqb-true _ _ e
 turn_held n x false g d h e k =
     let q : Shown.Picture (at n d) ≡ Shown.Lost g = ap (λ (z : Follower). z.shown) k in
-    let z : ◌≡◌ {A = ℕ} 0 1 = cc in
-    absurd (omega arith)
+    absurd (cc)
 
 pub lost_held : (k f n g : ℕ) (d : Display) (h : Held) → in_turn (suc k) f n d h ≡ lost g → (held_for h (n + 1)).number ≡ n + 1
 unfolding in_turn

@@ -1,47 +1,63 @@
 -- The recursions over the eight places, one place further.
 -- Assumes nothing.
-use mathlib.Core.Path.{◌≡◌, refl, ap, ◌∙◌}
-use mathlib.Core.Bool.{true, false}
-use Prim.Native.Nat.{ℕ, zero, suc, ◌+◌, ◌-◌, ◌≤◌, ◌<◌, max}
-use native.Mathlib.Nat.{add-zero, add-suc}
+use mathlib.Core.Path.{◌≡◌, refl, ap, sym, ◌∙◌}
+use mathlib.Core.Bool.{Bool, true, false}
+use mathlib.Core.Logic.{◌↔◌}
+use Prim.Native.Nat.{ℕ, zero, suc, ◌+◌, ◌≤◌, ◌<◌, max}
 use native.Mathlib.Numerals.{add-one}
 use native.Mathlib.Omega.{arith}
-use lib.Dec.{eqb}
-use lib.ListN.{get_or, set}
+use lib.Dec.{eqb, ltb}
+use lib.ListN.{get_or, length, set}
 use mathlib.Core.List.{List}
-use borrow.Author.Tests.{le-leb, lt-leb}
+use borrow.Author.Tests.{eqb-true, ltb-true, ltb-false, le-leb, lt-leb}
+use Rattle.std.proofs.lemmas.List.{get_or_default}
+use Rattle.power_policy_interface.proofs.Conjunction.{and_both}
 use Rattle.interface_display.specs.declared.packet.EventPacket.{EventPacket}
 use Rattle.desk_follower.specs.declared.held.Held.{Held}
 use Rattle.desk_follower.specs.Held.{none, packet_at, kept_above, none_held, greatest, above}
 
-pub none_start : (h : Held) → none_held 0 h ≡ true
+none_each : (k : ℕ) (h : Held) → ((i : ℕ) → i < k → (packet_at h i).number ≡ 0) → none_held k h ≡ true
 unfolding none_held
-none_start h = refl
+none_each zero h f = refl
+none_each (suc k) h f = rw (none_each k h (λ i l. f i (omega arith)), f k (omega arith))
 
-pub none_next : (h : Held) (i : ℕ) → none_held i h ≡ true → eqb (packet_at h i).number 0 ≡ true → none_held (i + 1) h ≡ true
+each_none : (k : ℕ) (h : Held) → none_held k h ≡ true → (i : ℕ) → i < k → (packet_at h i).number ≡ 0
 unfolding none_held
-none_next h i e f = rw (add-one, e, f)
+each_none zero h e i l = absurd (omega arith)
+each_none (suc k) h e i l =
+    let a = and_both (none_held k h) (eqb (packet_at h k).number 0) e in
+    tested (ltb i k) refl (each_none k h a.0 i) (eqb-true _ _ a.1)
+  where
+    tested : (t : Bool) → ltb i k ≡ t → (i < k → (packet_at h i).number ≡ 0) → (packet_at h k).number ≡ 0 → (packet_at h i).number ≡ 0
+    tested true q f g = f (ltb-true i k q)
+    tested false q f g =
+        let r : i ≡ k = omega (arith, ltb-false i k q) in
+        rw r g
 
-later : (h : Held) (i j : ℕ) → none_held i h ≡ false → none_held (i + j) h ≡ false
-unfolding none_held
-later h i zero e = rw add-zero e
-later h i (suc j) e = rw (add-suc, later h i j e)
-
--- one packet among the first k
-pub one_held : (h : Held) (k i : ℕ) → i < k → none_held i h ≡ true → eqb (packet_at h i).number 0 ≡ false → none_held k h ≡ false
-unfolding none_held
-one_held h k i l e f =
-    let s : k ≡ suc i + (k - suc i) = omega arith in
-    let g : none_held (suc i) h ≡ false = rw (e, f) in
-    ap (λ (n : ℕ). none_held n h) s ∙ later h (suc i) (k - suc i) g
+-- a test that holds exactly if every place is empty
+pub none_told : (b : Bool) (h : Held) → length h.packets ≡ 8 → ((b ≡ true) ↔ ((i : ℕ) → i < length h.packets → (packet_at h i).number ≡ 0))
+    → b ≡ none_held 8 h
+none_told true h e f = sym (none_each 8 h (λ i l. f.0 refl i (omega arith)))
+none_told false h e f = other (none_held 8 h) refl
+  where
+    other : (t : Bool) → none_held 8 h ≡ t → false ≡ t
+    other true q = f.1 (λ i l. each_none 8 h q i (omega arith))
+    other false q = refl
 
 pub greatest_start : (m : ℕ) (h : Held) → greatest m 0 h ≡ m
 unfolding greatest
 greatest_start m h = refl
 
-pub greatest_next : (m i : ℕ) (h : Held) → greatest m (i + 1) h ≡ max (packet_at h i).number (greatest m i h)
+greatest_next : (m i : ℕ) (h : Held) → greatest m (i + 1) h ≡ max (packet_at h i).number (greatest m i h)
 unfolding greatest
 greatest_next m i h = rw add-one
+
+-- what is read at a place, whatever stands past the last
+pub greatest_more : (m i most more : ℕ) (h : Held) (z : EventPacket) → i < length h.packets → most ≡ greatest m i h
+    → more ≡ max most (get_or h.packets i z).number → more ≡ greatest m (i + 1) h
+greatest_more m i most more h z l e f =
+    let q : (get_or h.packets i z).number ≡ (packet_at h i).number = ap (λ (p : EventPacket). p.number) (get_or_default h.packets i z none l) in
+    omega (arith, greatest_next m i h, q)
 
 pub above_start : (m : ℕ) (h : Held) → above m 0 h ≡ h
 unfolding above
@@ -52,9 +68,13 @@ unfolding above
 above_next m i h = rw add-one
 
 module _ (m i : ℕ) (xs ys : List EventPacket) (h : Held) (e : record { packets = xs } ≡ above m i h) where
-  pub above_drop : (p : EventPacket) → p ≡ none → (get_or xs i none).number ≤ m → ys ≡ set xs i p → record { packets = ys } ≡ above m (i + 1) h
-  above_drop p q l f =
-      rw (above_next, ← e, le-leb _ _ l) (ap (λ (zs : List EventPacket). record { packets = zs }) (f ∙ ap (set xs i) q))
+  pub above_drop : (p z : EventPacket) → p ≡ none → i < length xs → (get_or xs i z).number ≤ m → ys ≡ set xs i p
+      → record { packets = ys } ≡ above m (i + 1) h
+  above_drop p z q j l f =
+      let k : (get_or xs i none).number ≤ m = rw (get_or_default xs i z none j) at l in
+      rw (above_next, ← e, le-leb _ _ k) (ap (λ (zs : List EventPacket). record { packets = zs }) (f ∙ ap (set xs i) q))
 
-  pub above_keep : m < (get_or xs i none).number → ys ≡ xs → record { packets = ys } ≡ above m (i + 1) h
-  above_keep l f = rw (above_next, ← e, lt-leb _ _ l) (ap (λ (zs : List EventPacket). record { packets = zs }) f)
+  pub above_keep : (z : EventPacket) → i < length xs → m < (get_or xs i z).number → ys ≡ xs → record { packets = ys } ≡ above m (i + 1) h
+  above_keep z j l f =
+      let k : m < (get_or xs i none).number = rw (get_or_default xs i z none j) at l in
+      rw (above_next, ← e, lt-leb _ _ k) (ap (λ (zs : List EventPacket). record { packets = zs }) f)

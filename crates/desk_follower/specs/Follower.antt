@@ -1,19 +1,17 @@
 -- The follower (FOL-1 to FOL-11) as the code has it, its packets in
 -- eight places. It does what the abstract one does (promise_link).
-use Rattle.std.specs.Prelude.{ℕ, zero, suc, ◌+◌, max, Bool, cond, eqb, leb, ltb}
+use Rattle.std.specs.Prelude.{ℕ, zero, suc, ◌+◌, max, Bool, cond, eqb, leb, ltb, None, Option, Some}
 use Rattle.power_policy_interface.specs.Limits.{window}
 use Rattle.power_policy_interface.specs.Capability.{max_power_mw}
 use Rattle.interface_display.specs.Notices.{all_applied}
 use Rattle.interface_display.specs.declared.Display.{Display}
-use Rattle.interface_display.specs.declared.OptionAvailableConsumer.{OptionAvailableConsumer}
+use Rattle.interface_display.specs.declared.AvailableConsumer.{AvailableConsumer}
 use Rattle.interface_display.specs.declared.packet.EventPacket.{EventPacket}
 use Rattle.interface_display.specs.declared.packet.Packet.{Packet}
 use Rattle.interface_display.specs.declared.packet.Picture.{Picture}
 use Rattle.interface_display.specs.declared.State.{State}
 use Rattle.desk_follower.specs.Held.{nothing, held_for, holds, placed, dropped, none_held, greatest, above}
 use Rattle.desk_follower.specs.declared.Follower.{Follower}
-use Rattle.desk_follower.specs.declared.OptionDisplay.{OptionDisplay}
-use Rattle.desk_follower.specs.declared.OptionNumber.{OptionNumber}
 use Rattle.desk_follower.specs.declared.Shown.{Shown}
 use Rattle.desk_follower.specs.declared.held.Held.{Held}
 
@@ -73,32 +71,36 @@ state_at (Shown.Lost floor) none = State.Lost
 state_at (Shown.Picture s) none = cond none State.Level State.Waiting
 
 -- the consumer's port and its mW
-abbrev pub port_in : OptionAvailableConsumer → OptionNumber
-port_in OptionAvailableConsumer.None = OptionNumber.None
-port_in (OptionAvailableConsumer.Some c) = OptionNumber.Some c.psu
+abbrev pub port_in : Option AvailableConsumer → Option ℕ
+port_in None = None
+port_in (Some c) = Some c.psu
 
-abbrev pub mw_in : OptionAvailableConsumer → OptionNumber
-mw_in OptionAvailableConsumer.None = OptionNumber.None
-mw_in (OptionAvailableConsumer.Some c) = OptionNumber.Some (max_power_mw c.consumer_power_capability.capability)
+abbrev pub mw_in : Option AvailableConsumer → Option ℕ
+mw_in None = None
+mw_in (Some c) = Some (max_power_mw c.consumer_power_capability.capability)
 
 -- lost, or else, showing n, level or waiting (something held)
 abbrev pub state_of : Follower → State
 state_of f = state_at f.shown (none_held window f.held)
 
-abbrev pub number_of : Shown → OptionNumber
-number_of (Shown.Lost floor) = OptionNumber.None
-number_of (Shown.Picture s) = OptionNumber.Some s.number
+abbrev pub picture_of : Shown → Option Picture
+picture_of (Shown.Lost floor) = None
+picture_of (Shown.Picture s) = Some s
 
-abbrev pub shown_display : Shown → OptionDisplay
-shown_display (Shown.Lost floor) = OptionDisplay.None
-shown_display (Shown.Picture s) = OptionDisplay.Some s.display
+abbrev pub number_of : Shown → Option ℕ
+number_of (Shown.Lost floor) = None
+number_of (Shown.Picture s) = Some s.number
 
-abbrev pub consumer_of : Shown → OptionAvailableConsumer
-consumer_of (Shown.Lost floor) = OptionAvailableConsumer.None
+abbrev pub shown_display : Shown → Option Display
+shown_display (Shown.Lost floor) = None
+shown_display (Shown.Picture s) = Some s.display
+
+abbrev pub consumer_of : Shown → Option AvailableConsumer
+consumer_of (Shown.Lost floor) = None
 consumer_of (Shown.Picture s) = s.display.consumer
 
-abbrev pub port_of : Shown → OptionNumber
+abbrev pub port_of : Shown → Option ℕ
 port_of s = port_in (consumer_of s)
 
-abbrev pub mw_of : Shown → OptionNumber
+abbrev pub mw_of : Shown → Option ℕ
 mw_of s = mw_in (consumer_of s)

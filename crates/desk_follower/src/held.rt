@@ -1,7 +1,7 @@
 // The event packets that wait for their turn. Event m has place m % 8, so the eight events after the one shown have a place each.
-ghost use Rattle.std.specs.Prelude.{◌≡◌, max};
+ghost use Rattle.std.specs.Prelude.{◌≡◌, cond, eqb, None, Some, ◌+◌, ◌%◌};
 ghost use Rattle.power_policy_interface.specs.Limits.{window};
-ghost use Rattle.desk_follower.specs.Held.{none, nothing, none_held, greatest, above};
+ghost use Rattle.desk_follower.specs.Held.{none, nothing, held_for, holds, placed, dropped, none_held, greatest, above};
 
 use interface_display::notices::Notices;
 use interface_display::packet::EventPacket;
@@ -11,7 +11,7 @@ use power_policy_interface::limits::WINDOW;
 const PLACES: usize = WINDOW as usize;
 
 // Eight places; number 0 says that none is held there (events are numbered from 1).
-#[derive(Clone, Copy)]
+#[derive(Clone, Copy, PartialEq, Eq)]
 pub struct Held {
     pub packets: [EventPacket; PLACES],
 }
@@ -28,14 +28,18 @@ pub fn no_packet() -> EventPacket
     }
 }
 
-// The greater of two numbers.
-pub fn greater(a: u32, b: u32) -> u32
-    ensures { result ≡ max a b }
+// The place of an event.
+fn place(number: u32) -> usize
+    ensures { result ≡ number % window }
 {
-    if a < b {
-        return b;
-    }
-    a
+    (number % WINDOW) as usize
+}
+
+// Whether an event is the one after another.
+fn follows(next: u32, number: u32) -> bool
+    ensures { result ≡ eqb next (number + 1) }
+{
+    number.checked_add(1) == Some(next)
 }
 
 impl Held {
@@ -43,51 +47,65 @@ impl Held {
     pub fn new() -> Self
         ensures { result ≡ nothing }
     {
-        let packets = [no_packet(); PLACES];
-        Held { packets }
+        Held {
+            packets: [no_packet(); PLACES],
+        }
     }
 
     // Whether nothing is held.
-    pub fn is_empty(self) -> bool
-        ensures { result ≡ none_held window self }
+    pub fn is_empty(&self) -> bool
+        ensures { result ≡ none_held window self.now }
     {
-        let packets = self.packets;
-        let mut i: usize = 0;
-        while i < PLACES {
-            if packets[i].number != 0 {
-                return false;
-            }
-            i += 1;
+        self.packets.iter().all(|p| p.number == 0)
+    }
+
+    // Whether the packet of an event is held.
+    pub fn holds(&self, number: u32) -> bool
+        ensures { result ≡ holds self.now number }
+    {
+        self.packets[place(number)].number == number
+    }
+
+    // Holds a packet, at its event's place.
+    pub fn insert(&mut self, e: EventPacket)
+        ensures { self.new ≡ placed self.old e }
+    {
+        self.packets[place(e.number)] = e;
+    }
+
+    // The packet of the event after this one, no longer held. There is none after the last.
+    pub fn remove_next(&mut self, number: u32) -> Option<EventPacket>
+        ensures found { result ≡ cond (holds self.old (number + 1)) (Some (held_for self.old (number + 1))) None }
+        ensures after { self.new ≡ cond (holds self.old (number + 1)) (dropped self.old (number + 1)) self.old }
+    {
+        let place = place(number.wrapping_add(1));
+        let packet = self.packets[place];
+        if !follows(packet.number, number) {
+            return None;
         }
-        true
+        self.packets[place] = no_packet();
+        Some(packet)
     }
 
     // The greatest of a number and the numbers of the packets held.
-    pub fn greatest(self, number: u32) -> u32
-        ensures { result ≡ greatest number window self }
+    pub fn greatest(&self, number: u32) -> u32
+        ensures { result ≡ greatest number window self.now }
     {
-        let packets = self.packets;
         let mut most = number;
-        let mut i: usize = 0;
-        while i < PLACES {
-            most = greater(packets[i].number, most);
-            i += 1;
+        for p in &self.packets {
+            most = most.max(p.number);
         }
         most
     }
 
-    // The packets numbered above a number; the others are dropped.
-    pub fn above(self, number: u32) -> Held
-        ensures { result ≡ above number window self }
+    // Drops the packets numbered so or less.
+    pub fn keep_above(&mut self, number: u32)
+        ensures { self.new ≡ above number window self.old }
     {
-        let mut packets = self.packets;
-        let mut i: usize = 0;
-        while i < PLACES {
-            if packets[i].number <= number {
-                packets[i] = no_packet();
+        for p in &mut self.packets {
+            if p.number <= number {
+                *p = no_packet();
             }
-            i += 1;
         }
-        Held { packets }
     }
 }

@@ -5,180 +5,26 @@ pub mod held;
 
 ghost use Rattle.std.specs.Prelude.{◌≡◌};
 ghost use Rattle.power_policy_interface.specs.Limits.{window};
-ghost use Rattle.interface_display.specs.Notices.{all_applied};
-ghost use Rattle.desk_follower.specs.Follower.{lost, showing, fresh, in_turn, settled, taken_event, taken_picture, taken_at, taken, state_of, number_of, shown_display, consumer_of, port_of, mw_of};
+ghost use Rattle.interface_display.specs.declared.packet.Packet.{Packet};
+ghost use Rattle.desk_follower.specs.Follower.{lost, fresh, in_turn, settled, taken_at, taken, state_of, picture_of, number_of, shown_display, consumer_of, port_of, mw_of};
 
-use crate::held::{Held, greater, no_packet};
+use crate::held::Held;
 use interface_display::packet::{EventPacket, Packet, Picture};
-use interface_display::{Display, OptionAvailableConsumer, State};
+use interface_display::{AvailableConsumer, Display, State};
 use power_policy_interface::limits::WINDOW;
 
 // Lost with a floor, or showing what is held at an event.
-#[derive(Clone, Copy)]
+#[derive(Clone, Copy, PartialEq, Eq)]
 pub enum Shown {
     Lost(u32),
     Picture(Picture),
 }
 
 // Lost, it holds nothing; showing n, it holds event packets numbered n + 2 to n + 8.
-#[derive(Clone, Copy)]
+#[derive(Clone, Copy, PartialEq, Eq)]
 pub struct Follower {
     pub shown: Shown,
     pub held: Held,
-}
-
-// Option<u32>.
-#[derive(Clone, Copy)]
-pub enum OptionNumber {
-    None,
-    Some(u32),
-}
-
-// Option<Display>.
-#[derive(Clone, Copy)]
-pub enum OptionDisplay {
-    None,
-    Some(Display),
-}
-
-// Lost: nothing is held.
-fn lose(floor: u32) -> Follower
-    ensures { result ≡ lost floor }
-{
-    Follower {
-        shown: Shown::Lost(floor),
-        held: Held::new(),
-    }
-}
-
-// Showing, with what is held.
-fn show(shown: Picture, held: Held) -> Follower
-    ensures { result ≡ showing shown held }
-{
-    Follower {
-        shown: Shown::Picture(shown),
-        held,
-    }
-}
-
-// A display after the notices of a packet.
-fn applied(p: EventPacket, d: Display) -> Display
-    ensures { result ≡ all_applied p.notices d }
-{
-    let notices = p.notices;
-    notices.apply(d)
-}
-
-// The held packets applied in turn as long as the next number is held; one with an error makes it lost, with the floor.
-fn in_turn(floor: u32, number: u32, display: Display, held: Held) -> Follower
-    ensures { result ≡ in_turn window floor number display held }
-{
-    let mut n = number;
-    let mut d = display;
-    let mut packets = held.packets;
-    let mut i: u32 = 0;
-    while i < WINDOW {
-        let place = ((n % WINDOW + 1) % WINDOW) as usize;
-        let mut p = packets[place];
-        if p.number <= n {
-            break;
-        }
-        if p.number - n != 1 {
-            break;
-        }
-        if p.answer != 0 {
-            return lose(floor);
-        }
-        d = applied(p, d);
-        n = p.number;
-        p = no_packet();
-        packets[place] = p;
-        i += 1;
-    }
-    Follower {
-        shown: Shown::Picture(Picture {
-            number: n,
-            display: d,
-        }),
-        held: Held { packets },
-    }
-}
-
-// What is shown, after the packets that follow it; on an error the floor is the greatest of its number and those held.
-fn settle(shown: Picture, held: Held) -> Follower
-    ensures { result ≡ settled shown held }
-{
-    let number = shown.number;
-    let display = shown.display;
-    in_turn(held.greatest(number), number, display, held)
-}
-
-// Showing: an event packet numbered n or less, or held already, is dropped; beyond n + 8 it makes the follower lost; else it is
-// held, and applied if its turn has come.
-fn take_event(shown: Picture, held: Held, e: EventPacket) -> Follower
-    ensures { result ≡ taken_event shown held e }
-{
-    let n = shown.number;
-    let number = e.number;
-    if number <= n {
-        return show(shown, held);
-    }
-    if WINDOW < number - n {
-        return lose(held.greatest(number));
-    }
-    let mut packets = held.packets;
-    let place = (number % WINDOW) as usize;
-    if packets[place].number == number {
-        return show(shown, held);
-    }
-    packets[place] = e;
-    settle(shown, Held { packets })
-}
-
-// Showing: a picture numbered above n is shown, and the packets above it follow in turn; another is dropped.
-fn take_picture(shown: Picture, held: Held, p: Picture) -> Follower
-    ensures { result ≡ taken_picture shown held p }
-{
-    let n = shown.number;
-    let m = p.number;
-    if m <= n {
-        return show(shown, held);
-    }
-    settle(p, held.above(m))
-}
-
-// Lost: an event number raises the floor; a picture numbered at least the floor is shown, another is dropped.
-fn take_lost(floor: u32, held: Held, p: Packet) -> Follower
-    ensures { result ≡ taken_at (Shown.Lost floor) held p }
-{
-    match p {
-        Packet::Event(e) => {
-            return lose(greater(floor, e.number));
-        }
-        Packet::Picture(v) => {
-            if v.number < floor {
-                return Follower {
-                    shown: Shown::Lost(floor),
-                    held,
-                };
-            }
-            return show(v, Held::new());
-        }
-    }
-}
-
-// Showing: an event packet or a picture.
-fn take_shown(shown: Picture, held: Held, p: Packet) -> Follower
-    ensures { result ≡ taken_at (Shown.Picture shown) held p }
-{
-    match p {
-        Packet::Event(e) => {
-            return take_event(shown, held, e);
-        }
-        Packet::Picture(v) => {
-            return take_picture(shown, held, v);
-        }
-    }
 }
 
 impl Follower {
@@ -186,102 +32,154 @@ impl Follower {
     pub fn new() -> Self
         ensures { result ≡ fresh }
     {
-        lose(0)
+        Follower {
+            shown: Shown::Lost(0),
+            held: Held::new(),
+        }
     }
 
-    // The follower after a packet or a picture.
-    pub fn take(self, p: Packet) -> Follower
-        ensures { result ≡ taken self p }
+    // Lost: nothing is held.
+    fn lose(&mut self, floor: u32)
+        ensures { self.new ≡ lost floor }
     {
-        let shown = self.shown;
-        let held = self.held;
-        match shown {
-            Shown::Lost(floor) => {
-                return take_lost(floor, held, p);
+        *self = Follower {
+            shown: Shown::Lost(floor),
+            held: Held::new(),
+        };
+    }
+
+    // The held packets applied in turn as long as the next number is held; one with an error makes it lost, with the floor.
+    fn show_in_turn(&mut self, floor: u32, mut shown: Picture)
+        ensures { self.new ≡ in_turn window floor shown.number shown.display self.old.held }
+    {
+        for _ in 0..WINDOW {
+            let Some(p) = self.held.remove_next(shown.number) else {
+                break;
+            };
+            if p.answer != 0 {
+                return self.lose(floor);
             }
-            Shown::Picture(s) => {
-                return take_shown(s, held, p);
+            shown.display = p.notices.apply(shown.display);
+            shown.number = p.number;
+        }
+        self.shown = Shown::Picture(shown);
+    }
+
+    // What is shown, after the packets that follow it; on an error the floor is the greatest of its number and those held.
+    fn settle(&mut self, shown: Picture)
+        ensures { self.new ≡ settled shown self.old.held }
+    {
+        let floor = self.held.greatest(shown.number);
+        self.show_in_turn(floor, shown);
+    }
+
+    // Lost, an event number raises the floor. Showing n, an event packet numbered n or less, or held already, is dropped; beyond
+    // n + 8 it makes the follower lost; else it is held, and applied if its turn has come.
+    fn take_event(&mut self, e: EventPacket)
+        ensures { self.new ≡ taken_at self.old.shown self.old.held (Packet.Event e) }
+    {
+        match self.shown {
+            Shown::Lost(floor) => self.lose(floor.max(e.number)),
+            Shown::Picture(shown) if e.number <= shown.number => {}
+            Shown::Picture(shown) if WINDOW < e.number - shown.number => {
+                let floor = self.held.greatest(e.number);
+                self.lose(floor);
+            }
+            Shown::Picture(_) if self.held.holds(e.number) => {}
+            Shown::Picture(shown) => {
+                self.held.insert(e);
+                self.settle(shown);
             }
         }
     }
 
-    // Lost, or else level or waiting.
-    pub fn state(self) -> State
-        ensures { result ≡ state_of self }
+    // Lost, a picture numbered at least the floor is shown. Showing n, one numbered above n is shown, and the packets above it
+    // follow in turn. Another is dropped.
+    fn take_picture(&mut self, p: Picture)
+        ensures { self.new ≡ taken_at self.old.shown self.old.held (Packet.Picture p) }
     {
-        let shown = self.shown;
-        match shown {
-            Shown::Lost(_) => State::Lost,
-            Shown::Picture(_) => {
-                let held = self.held;
-                if held.is_empty() {
-                    return State::Level;
-                }
-                State::Waiting
+        match self.shown {
+            Shown::Lost(floor) if p.number < floor => {}
+            Shown::Lost(_) => {
+                *self = Follower {
+                    shown: Shown::Picture(p),
+                    held: Held::new(),
+                };
             }
+            Shown::Picture(shown) if p.number <= shown.number => {}
+            Shown::Picture(_) => {
+                self.held.keep_above(p.number);
+                self.settle(p);
+            }
+        }
+    }
+
+    // Takes a packet or a picture.
+    pub fn take(&mut self, p: Packet)
+        ensures { self.new ≡ taken self.old p }
+    {
+        match p {
+            Packet::Event(e) => self.take_event(e),
+            Packet::Picture(p) => self.take_picture(p),
+        }
+    }
+
+    // Lost, or else level or waiting.
+    pub fn state(&self) -> State
+        ensures { result ≡ state_of self.now }
+    {
+        match self.shown {
+            Shown::Lost(_) => State::Lost,
+            Shown::Picture(_) if self.held.is_empty() => State::Level,
+            Shown::Picture(_) => State::Waiting,
         }
     }
 }
 
 impl Shown {
-    // The number of the event shown.
-    pub fn number(self) -> OptionNumber
-        ensures { result ≡ number_of self }
+    // The picture, unless it is lost.
+    fn picture(self) -> Option<Picture>
+        ensures { result ≡ picture_of self }
     {
         match self {
-            Shown::Lost(_) => OptionNumber::None,
-            Shown::Picture(p) => OptionNumber::Some(p.number),
+            Shown::Lost(_) => None,
+            Shown::Picture(p) => Some(p),
         }
+    }
+
+    // The number of the event shown.
+    pub fn number(self) -> Option<u32>
+        ensures { result ≡ number_of self }
+    {
+        self.picture().map(|p| p.number)
     }
 
     // Consumer, unconstrained figures and tracked providers.
-    pub fn display(self) -> OptionDisplay
+    pub fn display(self) -> Option<Display>
         ensures { result ≡ shown_display self }
     {
-        match self {
-            Shown::Lost(_) => OptionDisplay::None,
-            Shown::Picture(p) => {
-                let display = p.display;
-                OptionDisplay::Some(display)
-            }
-        }
+        self.picture().map(|p| p.display)
     }
 
     // The consumer, with its port and capability.
-    pub fn consumer(self) -> OptionAvailableConsumer
+    pub fn consumer(self) -> Option<AvailableConsumer>
         ensures { result ≡ consumer_of self }
     {
-        match self {
-            Shown::Lost(_) => OptionAvailableConsumer::None,
-            Shown::Picture(p) => {
-                let display = p.display;
-                let consumer = display.consumer;
-                consumer
-            }
-        }
+        self.display()?.consumer
     }
 
     // The consumer's port.
-    pub fn port(self) -> OptionNumber
+    pub fn port(self) -> Option<u32>
         ensures { result ≡ port_of self }
     {
-        match self.consumer() {
-            OptionAvailableConsumer::None => OptionNumber::None,
-            OptionAvailableConsumer::Some(c) => OptionNumber::Some(c.psu as u32),
-        }
+        self.consumer().map(|c| c.psu as u32)
     }
 
     // The consumer's maximum power in mW.
-    pub fn mw(self) -> OptionNumber
+    pub fn mw(self) -> Option<u32>
         ensures { result ≡ mw_of self }
     {
-        match self.consumer() {
-            OptionAvailableConsumer::None => OptionNumber::None,
-            OptionAvailableConsumer::Some(c) => {
-                let with_flags = c.consumer_power_capability;
-                let capability = with_flags.capability;
-                OptionNumber::Some(capability.max_power_mw())
-            }
-        }
+        self.consumer()
+            .map(|c| c.consumer_power_capability.capability.max_power_mw())
     }
 }

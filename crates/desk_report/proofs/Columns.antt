@@ -1,45 +1,57 @@
--- A text at the right of its columns, written from its last byte on: a byte, a port, a port before others with a comma, and no port at all.
+-- A text at the right of its columns, written from its last byte on: bytes, digits, a port before others with a comma, no port at all; and the line that it
+-- stands in.
 -- Assumes nothing.
 use mathlib.Core.Path.{◌≡◌, refl, ap, sym, ◌∙◌, subst}
-use mathlib.Core.List.{List, [], ◌∷◌, ◌++◌, append-nil}
+use mathlib.Core.List.{List, [], ◌∷◌, ◌++◌, append-nil, append_assoc}
 use Prim.Native.Nat.{ℕ, zero, suc, ◌+◌, ◌-◌, ◌/◌, ◌%◌, ◌^◌, ◌≤◌, ◌<◌}
+use native.Mathlib.Omega.{arith}
+use lib.ListN.{length, drop, set, replicate, length-replicate, length-drop, drop_of_length-le, length-append, get_or}
+use lib.Seq.{append_snoc, take_all, take_at, drop-drop, drop-cons, set_at}
+use borrow.Author.Tests.{le-ltb}
+use borrow.Rule.Slice.PartMut.{mid_of, put_mid}
+use Rattle.std.proofs.lemmas.List.{drop_at, take-replicate}
+use lib.Pow.{shr-shr}
 use native.Mathlib.Nat.{div-one}
 use native.Mathlib.Numerals.{add-one}
-use native.Mathlib.Omega.{arith}
-use lib.ListN.{length, take, drop, set, replicate, length-drop, take-append-drop}
-use lib.Pow.{shr-shr}
-use borrow.Author.Tests.{lt-ltb, le-ltb}
 use Rattle.wire.specs.Bytes.{ports_from, ports_bytes}
 use Rattle.wire.proofs.Stores.{port_set, port_clear}
-use Rattle.abstract_page.specs.Text.{blank, comma, hyphen, decimal, right}
+use Rattle.abstract_page.specs.Text.{blank, comma, hyphen, digits, decimal, right}
 use Rattle.abstract_page.specs.Page.{commas, text, ports}
-use Rattle.abstract_page.proofs.Columns.{right_short, right_long, right_more}
 use Rattle.abstract_page.proofs.Read.{commas_some}
+use Rattle.abstract_page.proofs.Columns.{right_short, right_long, right_more}
 use Rattle.desk_report.specs.Page.{Holds}
 
--- a byte
-
-pub push_full : (t : List ℕ) (from b : ℕ) (s : List ℕ) → from ≡ 0 → Holds t from s → Holds t 0 (b ∷ s)
+pub push_full : (t : List ℕ) (from b : ℕ) (s : List ℕ) → from ≤ 0 → Holds t from s → Holds t from (b ∷ s)
 push_full t from b s e h =
     let k : 20 ≤ length s = omega (arith, h.place) in
-    record { text = h.text ∙ sym (right_long 20 b s k); place = omega arith }
+    record { text = h.text ∙ sym (right_long 20 b s k); place = omega (arith, h.place) }
 
-pub push_one : (t : List ℕ) (from b : ℕ) (s : List ℕ) → (from ≡ 0 → ⊥) → Holds t from s → Holds (set t (from - 1) b) (from - 1) (b ∷ s)
+pub push_one : (t : List ℕ) (from b : ℕ) (s : List ℕ) → 0 < from → Holds t from s → Holds (set t (from - 1) b) (from - 1) (b ∷ s)
 push_one t from b s n h =
     let k : suc (from - 1) + length s ≡ 20 = omega (arith, h.place) in
     record { text = ap (λ (x : List ℕ). set x (from - 1) b) h.text ∙ right_more (from - 1) 20 b s k; place = omega (arith, h.place) }
 
--- a port's digits
+-- what stands there
+pub held : (t : List ℕ) (from : ℕ) (s : List ℕ) → length s ≤ 20 → Holds t from s → mid_of from (20 - from) t ≡ s
+held t from s l h =
+    let k : from + length s ≡ 20 = omega (arith, h.place) in
+    let n : length s ≤ 20 - from = omega arith in
+    rw (h.text, right_short from 20 s k, drop_at (replicate from blank) s from (length-replicate from blank), take_all (20 - from) s n)
 
-pub port_one : (p : ℕ) → p < 10 → decimal p ≡ (48 + p % 10) ∷ []
-unfolding decimal
-port_one p h = rw (lt-ltb p 10 h)
+-- a digit stands before the text d, and those of the tenth are left
+pub digit_more : (k m n : ℕ) (d : List ℕ) → k ≡ suc m → (n / 10 ≡ 0 → ⊥) → digits k n ++ d ≡ digits m (n / 10) ++ ((48 + n % 10) ∷ d)
+digit_more k m n d e h =
+    let g : 10 ≤ n = omega arith in
+    rw (e, le-ltb n 10 g, append_snoc (digits m (n / 10)) (48 + n % 10) d)
 
-pub port_two : (p : ℕ) → 10 ≤ p → p < 16 → decimal p ≡ 49 ∷ (48 + p % 10) ∷ []
-unfolding decimal
-port_two p h k =
-    let z : p / 10 ≡ 1 = omega arith in
-    rw (le-ltb p 10 h, z)
+-- a text that has room
+pub stood : (v : List ℕ) → length v ≤ 20 → Holds (put_mid (20 - length v) (20 - (20 - length v)) (replicate 20 blank) v) (20 - length v) v
+stood v l =
+    let n = length v in
+    let k : (20 - n) + n ≡ 20 = omega arith in
+    let a : 20 - n ≤ 20 = omega arith in
+    let z : drop (20 - (20 - n)) (drop (20 - n) (replicate 20 blank)) ≡ [] = drop_of_length-le (drop (20 - n) (replicate 20 blank)) (omega (arith, length-drop (20 - n) (replicate 20 blank), length-replicate {A = ℕ} 20 blank)) in
+    record { text = rw (take-replicate (20 - n) 20 blank a, z, append-nil v, right_short (20 - n) 20 v k); place = refl }
 
 -- before other ports
 
@@ -89,8 +101,12 @@ pub some_there : (t : List ℕ) (from : ℕ) (l : List ℕ) → Holds t from (co
 some_there t from [] h n = absurd (n h.place)
 some_there t from (p ∷ l) h n = h.text
 
--- digits that stand after blanks
-pub digits_right : (t s : List ℕ) (from : ℕ) → drop from t ≡ s → length t ≡ 20 → from ≤ 20 → take from t ≡ replicate from blank → t ≡ right 20 s
-digits_right t s from d l h b =
-    let k : from + length s ≡ 20 = omega (arith, length-drop from t, ap length d) in
-    sym (take-append-drop from t) ∙ ((λ i. b i ++ d i) ∙ sym (right_short from 20 s k))
+-- name, figure and a byte, stored one after the other
+pub line_stored : (name figure o : List ℕ) (b : ℕ) → length name ≡ 20 → length figure ≡ 20 → length o ≡ 41
+    → set (put_mid 20 20 (name ++ drop 20 o) figure) 40 b ≡ name ++ (figure ++ (b ∷ []))
+line_stored name figure o b n f e =
+    let h : 40 < length o = omega arith in
+    let l : length (name ++ figure) ≡ 40 = omega (arith, length-append name figure) in
+    let k : length o ≤ 41 = omega arith in
+    let z : drop 41 o ≡ [] = drop_of_length-le o k in
+    rw (take_at name (drop 20 o) 20 n, drop_at name (drop 20 o) 20 n, drop-drop 20 20 o, drop-cons o 40 0 h, z, ← append_assoc name figure (get_or o 40 0 ∷ []), set_at (name ++ figure) (get_or o 40 0) [] b 40 l, append_assoc name figure (b ∷ []))

@@ -1,5 +1,6 @@
 -- A line takes at most 92 bytes, and a packet with its length at least one of the input's.
 -- Assumes nothing.
+use Rattle.std.specs.Prelude.{Err, None, Ok, Option, Result, Some}
 use mathlib.Core.Path.{◌≡◌, refl, ap, sym, ◌∙◌}
 use mathlib.Core.Bool.{Bool, true, false, cond}
 use mathlib.Core.List.{List, [], ◌∷◌, ◌++◌}
@@ -10,12 +11,11 @@ use lib.ListN.{length, take, drop, length-append}
 use lib.Seq.{sets, length-sets, length-take-le}
 use Rattle.interface_display.specs.declared.State.{State}
 use Rattle.wire.specs.Read.{read_packet}
-use Rattle.wire.specs.declared.packet.ReadPacket.{ReadPacket}
+use Rattle.interface_display.specs.declared.packet.Packet.{Packet}
 use Rattle.abstract_page.specs.Text.{decimal, word}
 use Rattle.abstract_page.proofs.Decimal.{length_to}
 use Rattle.desk_follower.specs.Follower as follower
 use Rattle.desk_follower.specs.declared.Follower.{Follower}
-use Rattle.desk_follower.specs.declared.OptionNumber.{OptionNumber}
 use Rattle.wire_framing.specs.Framing.{framed}
 use Rattle.wire_framing.specs.declared.Framed.{Framed}
 use Rattle.wire_framing.proofs.Frames.{frame_told}
@@ -26,9 +26,9 @@ use Rattle.desk_report.specs.declared.desk.Desk.{Desk}
 use Rattle.desk_report.specs.declared.desk.Next.{Next}
 use Rattle.desk_report.specs.declared.line.Line.{Line}
 
-number_length : (n : OptionNumber) → length (number n) ≤ 20
-number_length OptionNumber.None = omega arith
-number_length (OptionNumber.Some n) = length_to n
+number_length : (n : Option ℕ) → length (number n) ≤ 20
+number_length None = omega arith
+number_length (Some n) = length_to n
 
 word_length : (s : State) → length (word s) ≤ 7
 word_length State.Lost = omega arith
@@ -53,16 +53,16 @@ taken_length : (lines : Bool) (k : ℕ) (l : Line) → length (line_taken lines 
 taken_length true k l = line_length k l
 taken_length false k l = omega arith
 
-read_length : (lines : Bool) (k : ℕ) (f : Follower) (r : ReadPacket) → length (line_read lines k f r) ≤ 92
-read_length lines k f (ReadPacket.Refused n) = refused_length k n
-read_length lines k f (ReadPacket.Packet p) = taken_length lines k (line_of (follower.taken f p))
+read_length : (lines : Bool) (k : ℕ) (f : Follower) (r : Result Packet ℕ) → length (line_read lines k f r) ≤ 92
+read_length lines k f (Err n) = refused_length k n
+read_length lines k f (Ok p) = taken_length lines k (line_of (follower.taken f p))
 
-at_length : (d : Desk) (s : List ℕ) (r : Framed) → length (bytes_at d s r) ≤ 92
+at_length : (d : Desk) (s : List ℕ) (r : Result Framed ℕ) → length (bytes_at d s r) ≤ 92
 unfolding line_for
-at_length d s Framed.Empty = omega arith
-at_length d s Framed.Cut = omega arith
-at_length d s (Framed.Refused n) = refused_length (counted d.packets) n
-at_length d s (Framed.Frame u n) = read_length d.lines (counted d.packets) d.follower (read_packet (take n (drop u s)))
+at_length d s (Ok Framed.Empty) = omega arith
+at_length d s (Ok Framed.Cut) = omega arith
+at_length d s (Err n) = refused_length (counted d.packets) n
+at_length d s (Ok (Framed.Frame u n)) = read_length d.lines (counted d.packets) d.follower (read_packet (take n (drop u s)))
 
 pub step_length : (d : Desk) (s : List ℕ) → length (stepped_bytes d s) ≤ 92
 step_length d s = at_length d s (framed s)
@@ -76,11 +76,11 @@ end_length d s = tested (eqb (length s) 0)
 
 -- what a step uses
 
-next_told : (s : List ℕ) (r : Framed) (m : ℕ) → framed s ≡ r → next_at r ≡ Next.Used m → (1 ≤ m) × (m ≤ length s)
-next_told s Framed.Empty m p e = absurd (let z : ◌≡◌ {A = ℕ} 0 1 = cc in omega arith)
-next_told s Framed.Cut m p e = absurd (let z : ◌≡◌ {A = ℕ} 0 1 = cc in omega arith)
-next_told s (Framed.Refused n) m p e = absurd (let z : ◌≡◌ {A = ℕ} 0 1 = cc in omega arith)
-next_told s (Framed.Frame u n) m p e =
+next_told : (s : List ℕ) (r : Result Framed ℕ) (m : ℕ) → framed s ≡ r → next_at r ≡ Next.Used m → (1 ≤ m) × (m ≤ length s)
+next_told s (Ok Framed.Empty) m p e = absurd (let z : ◌≡◌ {A = ℕ} 0 1 = cc in omega arith)
+next_told s (Ok Framed.Cut) m p e = absurd (let z : ◌≡◌ {A = ℕ} 0 1 = cc in omega arith)
+next_told s (Err n) m p e = absurd (let z : ◌≡◌ {A = ℕ} 0 1 = cc in omega arith)
+next_told s (Ok (Framed.Frame u n)) m p e =
     let t = frame_told s u n p in
     let f : u + n ≡ m = cc in
     (omega (arith, t.least), omega (arith, t.there))

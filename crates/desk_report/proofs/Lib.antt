@@ -1,6 +1,6 @@
-pub mod Decimal
-pub mod Lengths
-pub mod Whole
+pub mod Filled
 pub mod Columns
 pub mod Lines
+pub mod Lengths
+pub mod Whole
 pub mod Says

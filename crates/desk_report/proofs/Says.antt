@@ -1,10 +1,11 @@
 -- What a page of the code says is what the definition says of it; it has a page's length.
 -- Assumes nothing.
+use Rattle.std.specs.Prelude.{None, Option, Some}
 use mathlib.Core.Path.{◌≡◌, refl, ap, ◌∙◌}
 use mathlib.Core.List.{List}
 use lib.ListN.{length}
 use Rattle.power_policy_interface.specs.Limits.{page_length}
-use Rattle.interface_display.specs.declared.OptionAvailableConsumer.{OptionAvailableConsumer}
+use Rattle.interface_display.specs.declared.AvailableConsumer.{AvailableConsumer}
 use Rattle.interface_display.specs.declared.packet.Picture.{Picture}
 use Rattle.interface_display.specs.declared.State.{State}
 use Rattle.wire.specs.Bytes.{ports_bytes}
@@ -19,10 +20,10 @@ pub lost_says : entries_in lost_page ≡ lost_entries
 unfolding ports_bytes
 lost_says = refl
 
-by_consumer : (s : State) (p : Picture) (c : OptionAvailableConsumer) → entries_in (shown_page s p c)
+by_consumer : (s : State) (p : Picture) (c : Option AvailableConsumer) → entries_in (shown_page s p c)
     ≡ entries (one p.number) (state s) (of_consumer (λ a. a.psu) c) (of_consumer millivolts c) (of_consumer milliamps c) (ports (ports_bytes p.display.providers.mask))
-by_consumer s p OptionAvailableConsumer.None = refl
-by_consumer s p (OptionAvailableConsumer.Some a) = refl
+by_consumer s p None = refl
+by_consumer s p (Some a) = refl
 
 pub showing_says : (s : State) (p : Picture) → entries_in (showing_page s p) ≡ shown_entries s p.number p.display
 showing_says s p = by_consumer s p p.display.consumer

@@ -1,6 +1,7 @@
 -- However the reads cut the input, a run writes what is written for the whole and ends at its desk: a packet that is there, and a length
 -- that is refused, stay so whatever bytes come after them, so to take what is there and then the rest is to take all at once.
 -- Assumes nothing.
+use Rattle.std.specs.Prelude.{Result, Ok, Err}
 use mathlib.Core.Path.{◌≡◌, refl, ap, sym, ◌∙◌}
 use mathlib.Core.Bool.{Bool, true, false, cond}
 use mathlib.Core.List.{List, [], ◌∷◌, ◌++◌, flatten, append-nil, append_assoc}
@@ -28,12 +29,12 @@ same (suc k) zero d [] p q = refl
 same (suc k) zero d (b ∷ s) p q = absurd (omega arith)
 same (suc k) (suc m) d s p q = found (same k m) (framed s) refl
   where
-    found : ((d : Desk) (s : List ℕ) → length s ≤ k → length s ≤ m → taking k d s ≡ taking m d s) → (r : Framed) → framed s ≡ r
+    found : ((d : Desk) (s : List ℕ) → length s ≤ k → length s ≤ m → taking k d s ≡ taking m d s) → (r : Result Framed ℕ) → framed s ≡ r
         → written_after (bytes_at d s r) (after_take (taking k) (desk_at d s r) s (next_at r)) ≡ written_after (bytes_at d s r) (after_take (taking m) (desk_at d s r) s (next_at r))
-    found ih Framed.Empty e = refl
-    found ih Framed.Cut e = refl
-    found ih (Framed.Refused n) e = refl
-    found ih (Framed.Frame u n) e =
+    found ih (Ok Framed.Empty) e = refl
+    found ih (Ok Framed.Cut) e = refl
+    found ih (Err n) e = refl
+    found ih (Ok (Framed.Frame u n)) e =
         let t = frame_told s u n e in
         let l = length-drop (u + n) s in
         let p' : length (drop (u + n) s) ≤ k = omega (arith, t.least, t.there) in
@@ -46,12 +47,12 @@ unfolding framed
 take_step d [] = refl
 take_step d (b ∷ s) = found (b ∷ s) refl (framed (b ∷ s)) refl
   where
-    found : (v : List ℕ) → length v ≡ suc (length s) → (r : Framed) → framed v ≡ r
+    found : (v : List ℕ) → length v ≡ suc (length s) → (r : Result Framed ℕ) → framed v ≡ r
         → written_after (bytes_at d v r) (after_take (taking (length s)) (desk_at d v r) v (next_at r)) ≡ written_after (bytes_at d v r) (after_take take_all (desk_at d v r) v (next_at r))
-    found v h Framed.Empty e = refl
-    found v h Framed.Cut e = refl
-    found v h (Framed.Refused n) e = refl
-    found v h (Framed.Frame u n) e =
+    found v h (Ok Framed.Empty) e = refl
+    found v h (Ok Framed.Cut) e = refl
+    found v h (Err n) e = refl
+    found v h (Ok (Framed.Frame u n)) e =
         let t = frame_told v u n e in
         let l = length-drop (u + n) v in
         let p : length (drop (u + n) v) ≤ length s = omega (arith, t.least, t.there) in
@@ -62,12 +63,12 @@ kept_in : (k : ℕ) (d : Desk) (s : List ℕ) → length s ≤ k → length (tak
 kept_in zero d s p = omega arith
 kept_in (suc k) d s p = found (kept_in k) (framed s) refl (unframed_short s)
   where
-    found : ((d : Desk) (s : List ℕ) → length s ≤ k → length (taking k d s).kept ≤ 68) → (r : Framed) → framed s ≡ r → Unframed s r
+    found : ((d : Desk) (s : List ℕ) → length s ≤ k → length (taking k d s).kept ≤ 68) → (r : Result Framed ℕ) → framed s ≡ r → Unframed s r
         → length (after_take (taking k) (desk_at d s r) s (next_at r)).kept ≤ 68
-    found ih Framed.Empty e h = h
-    found ih Framed.Cut e h = h
-    found ih (Framed.Refused n) e h = omega arith
-    found ih (Framed.Frame u n) e h =
+    found ih (Ok Framed.Empty) e h = h
+    found ih (Ok Framed.Cut) e h = h
+    found ih (Err n) e h = omega arith
+    found ih (Ok (Framed.Frame u n)) e h =
         let t = frame_told s u n e in
         let l = length-drop (u + n) s in
         ih (taken_by d (take n (drop u s))) (drop (u + n) s) (omega (arith, t.least, t.there))
@@ -94,12 +95,12 @@ split (suc k) zero d (b ∷ s) t p q = absurd (omega arith)
 split (suc k) (suc m) d s t p q = found (split k m) (framed s) refl
   where
     found : ((d : Desk) (s t : List ℕ) → length s ≤ k → length (s ++ t) ≤ m → taking m d (s ++ t) ≡ read_on (taking k d s) t)
-        → (r : Framed) → framed s ≡ r
+        → (r : Result Framed ℕ) → framed s ≡ r
         → taking (suc m) d (s ++ t) ≡ read_on (written_after (bytes_at d s r) (after_take (taking k) (desk_at d s r) s (next_at r))) t
-    found ih Framed.Empty e = same (suc m) (length (s ++ t)) d (s ++ t) q (omega arith)
-    found ih Framed.Cut e = same (suc m) (length (s ++ t)) d (s ++ t) q (omega arith)
-    found ih (Framed.Refused n) e = rw (refused_more s t n e)
-    found ih (Framed.Frame u n) e =
+    found ih (Ok Framed.Empty) e = same (suc m) (length (s ++ t)) d (s ++ t) q (omega arith)
+    found ih (Ok Framed.Cut) e = same (suc m) (length (s ++ t)) d (s ++ t) q (omega arith)
+    found ih (Err n) e = rw (refused_more s t n e)
+    found ih (Ok (Framed.Frame u n)) e =
         let w = frame_told s u n e in
         let a : u ≤ length s = omega (arith, w.there) in
         let b : n ≤ length (drop u s) = omega (arith, w.there, length-drop u s) in
@@ -136,13 +137,13 @@ at_once zero d [] p = refl
 at_once zero d (b ∷ s) p = absurd (omega arith)
 at_once (suc k) d s p = found (at_once k) (framed s) refl
   where
-    found : ((d : Desk) (s : List ℕ) → length s ≤ k → ended (taking k d s) ≡ output k d s) → (r : Framed) → framed s ≡ r
+    found : ((d : Desk) (s : List ℕ) → length s ≤ k → ended (taking k d s) ≡ output k d s) → (r : Result Framed ℕ) → framed s ≡ r
         → ended (written_after (bytes_at d s r) (after_take (taking k) (desk_at d s r) s (next_at r)))
         ≡ bytes_at d s r ++ after_step (output k) (desk_at d s r) s (next_at r)
-    found ih Framed.Empty e = refl
-    found ih Framed.Cut e = refl
-    found ih (Framed.Refused n) e = append-nil (refused_at d (Framed.Refused n) ++ [])
-    found ih (Framed.Frame u n) e =
+    found ih (Ok Framed.Empty) e = refl
+    found ih (Ok Framed.Cut) e = refl
+    found ih (Err n) e = append-nil (refused_at d (Err n) ++ [])
+    found ih (Ok (Framed.Frame u n)) e =
         let w = frame_told s u n e in
         let l = length-drop (u + n) s in
         let x = take n (drop u s) in

@@ -1,7 +1,7 @@
 -- What a desk writes for its input, and where it then stands; the program `follow` (PRG-1 to PRG-6).
-use Rattle.std.specs.Prelude.{ℕ, zero, suc, ◌+◌, Bool, true, cond, List, [], ◌++◌, eqb, ltb, length, take, drop}
+use Rattle.std.specs.Prelude.{ℕ, zero, suc, ◌+◌, Bool, true, cond, List, [], ◌++◌, eqb, ltb, length, take, drop, Err, Ok, Result}
 use Rattle.wire.specs.Read.{read_packet}
-use Rattle.wire.specs.declared.packet.ReadPacket.{ReadPacket}
+use Rattle.interface_display.specs.declared.packet.Packet.{Packet}
 use Rattle.wire_framing.specs.Framing.{framed, refusal_of}
 use Rattle.wire_framing.specs.declared.Framed.{Framed}
 use Rattle.desk_follower.specs.Follower as follower
@@ -22,18 +22,18 @@ counted k = cond (ltb k 18446744073709551615) (k + 1) k
 
 -- a refused packet changes nothing
 
-abbrev pub after_read : Follower → ReadPacket → Follower
-after_read f (ReadPacket.Refused n) = f
-after_read f (ReadPacket.Packet p) = follower.taken f p
+abbrev pub after_read : Follower → Result Packet ℕ → Follower
+after_read f (Err n) = f
+after_read f (Ok p) = follower.taken f p
 
 -- the line of a packet that was taken, where these have one; of one that is refused always
 
 abbrev pub line_taken : Bool → ℕ → Line → List ℕ
 line_taken lines k l = cond lines (line_bytes k l) []
 
-abbrev pub line_read : Bool → ℕ → Follower → ReadPacket → List ℕ
-line_read lines k f (ReadPacket.Refused n) = refused_bytes k n
-line_read lines k f (ReadPacket.Packet p) = line_taken lines k (line_of (follower.taken f p))
+abbrev pub line_read : Bool → ℕ → Follower → Result Packet ℕ → List ℕ
+line_read lines k f (Err n) = refused_bytes k n
+line_read lines k f (Ok p) = line_taken lines k (line_of (follower.taken f p))
 
 -- a packet: ordinals count every packet, refused ones too
 
@@ -44,28 +44,28 @@ unfoldable pub line_for : Desk → List ℕ → List ℕ
 line_for d p = line_read d.lines (counted d.packets) d.follower (read_packet p)
 
 -- PRG-5: `K refused N` where no packet can be taken from the front of the bytes
-abbrev pub refused_at : Desk → Framed → List ℕ
+abbrev pub refused_at : Desk → Result Framed ℕ → List ℕ
 refused_at d r = refused_bytes (counted d.packets) (refusal_of r)
 
 -- a packet with its length, from the front of the bytes
 
-abbrev pub desk_at : Desk → List ℕ → Framed → Desk
-desk_at d s Framed.Empty = d
-desk_at d s Framed.Cut = d
-desk_at d s (Framed.Refused n) = record { packets = counted d.packets; follower = d.follower; lines = d.lines }
-desk_at d s (Framed.Frame used n) = taken_by d (take n (drop used s))
+abbrev pub desk_at : Desk → List ℕ → Result Framed ℕ → Desk
+desk_at d s (Ok Framed.Empty) = d
+desk_at d s (Ok Framed.Cut) = d
+desk_at d s (Err n) = record { packets = counted d.packets; follower = d.follower; lines = d.lines }
+desk_at d s (Ok (Framed.Frame used n)) = taken_by d (take n (drop used s))
 
-abbrev pub bytes_at : Desk → List ℕ → Framed → List ℕ
-bytes_at d s Framed.Empty = []
-bytes_at d s Framed.Cut = []
-bytes_at d s (Framed.Refused n) = refused_at d (Framed.Refused n)
-bytes_at d s (Framed.Frame used n) = line_for d (take n (drop used s))
+abbrev pub bytes_at : Desk → List ℕ → Result Framed ℕ → List ℕ
+bytes_at d s (Ok Framed.Empty) = []
+bytes_at d s (Ok Framed.Cut) = []
+bytes_at d s (Err n) = refused_at d (Err n)
+bytes_at d s (Ok (Framed.Frame used n)) = line_for d (take n (drop used s))
 
-abbrev pub next_at : Framed → Next
-next_at Framed.Empty = Next.More
-next_at Framed.Cut = Next.More
-next_at (Framed.Refused n) = Next.Stop
-next_at (Framed.Frame used n) = Next.Used (used + n)
+abbrev pub next_at : Result Framed ℕ → Next
+next_at (Ok Framed.Empty) = Next.More
+next_at (Ok Framed.Cut) = Next.More
+next_at (Err n) = Next.Stop
+next_at (Ok (Framed.Frame used n)) = Next.Used (used + n)
 
 abbrev pub stepped_desk : Desk → List ℕ → Desk
 stepped_desk d s = desk_at d s (framed s)
@@ -78,7 +78,7 @@ stepped_next s = next_at (framed s)
 
 -- PRG-6: an end between packets writes nothing; bytes that are left are a packet cut short
 abbrev pub end_bytes : Desk → List ℕ → List ℕ
-end_bytes d s = cond (eqb (length s) 0) [] (refused_at d Framed.Cut)
+end_bytes d s = cond (eqb (length s) 0) [] (refused_at d (Ok Framed.Cut))
 
 -- the whole input, of at most k packets: what is written for it, and the desk at its end. After a packet `more` has the rest; without one
 -- the input ends; a refused length stops.

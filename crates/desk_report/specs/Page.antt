@@ -1,7 +1,7 @@
 -- A page as the code has it; what it says is said in abstract_page's words.
-use Rattle.std.specs.Prelude.{ℕ, ◌-◌, cond, List, ◌≡◌, eqb, length}
+use Rattle.std.specs.Prelude.{ℕ, ◌-◌, List, ◌≡◌, length, None, Option, Some}
 use Rattle.interface_display.specs.Providers.{none}
-use Rattle.interface_display.specs.declared.OptionAvailableConsumer.{OptionAvailableConsumer}
+use Rattle.interface_display.specs.declared.AvailableConsumer.{AvailableConsumer}
 use Rattle.interface_display.specs.declared.packet.Picture.{Picture}
 use Rattle.interface_display.specs.declared.State.{State}
 use Rattle.wire.specs.Bytes.{ports_bytes}
@@ -10,17 +10,11 @@ use Rattle.abstract_page.specs.Page.{Figure, absent, state, Entry, lines, entrie
 use Rattle.desk_follower.specs.Follower.{state_of}
 use Rattle.desk_follower.specs.declared.Follower.{Follower}
 use Rattle.desk_follower.specs.declared.Shown.{Shown}
-use Rattle.desk_report.specs.declared.page.Figure as code
 use Rattle.desk_report.specs.declared.page.Page.{Page}
 
-abbrev pub given : ℕ → code.Figure
-given n = record { present = 1; value = n }
-
-abbrev pub nothing : code.Figure
-nothing = record { present = 0; value = 0 }
-
-abbrev pub figure_of : code.Figure → Figure
-figure_of f = cond (eqb f.present 1) (one f.value) absent
+abbrev pub figure_of : Option ℕ → Figure
+figure_of None = absent
+figure_of (Some n) = one n
 
 abbrev pub entries_in : Page → List Entry
 entries_in p =
@@ -33,32 +27,32 @@ page_bytes p = lines (entries_in p)
 abbrev pub lost_page : Page
 lost_page =
     record {
-      number = nothing;
+      number = None;
       state = State.Lost;
-      port = nothing;
-      mv = nothing;
-      ma = nothing;
+      port = None;
+      mv = None;
+      ma = None;
       tracked = none;
     }
 
 -- level or waiting, what is shown
-abbrev pub shown_page : State → Picture → OptionAvailableConsumer → Page
-shown_page s p OptionAvailableConsumer.None =
+abbrev pub shown_page : State → Picture → Option AvailableConsumer → Page
+shown_page s p None =
     record {
-      number = given p.number;
+      number = Some p.number;
       state = s;
-      port = nothing;
-      mv = nothing;
-      ma = nothing;
+      port = None;
+      mv = None;
+      ma = None;
       tracked = p.display.providers;
     }
-shown_page s p (OptionAvailableConsumer.Some c) =
+shown_page s p (Some c) =
     record {
-      number = given p.number;
+      number = Some p.number;
       state = s;
-      port = given c.psu;
-      mv = given (millivolts c);
-      ma = given (milliamps c);
+      port = Some c.psu;
+      mv = Some (millivolts c);
+      ma = Some (milliamps c);
       tracked = p.display.providers;
     }
 

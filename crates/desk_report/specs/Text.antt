@@ -1,12 +1,11 @@
 -- Text of `follow` as ASCII bytes: a number or a dash, and its fixed words.
-use Rattle.std.specs.Prelude.{ℕ, List, [], ◌∷◌}
+use Rattle.std.specs.Prelude.{ℕ, List, [], ◌∷◌, None, Option, Some}
 use Rattle.abstract_page.specs.Text.{hyphen, decimal}
-use Rattle.desk_follower.specs.declared.OptionNumber.{OptionNumber}
 
 -- a hyphen for none
-abbrev pub number : OptionNumber → List ℕ
-number OptionNumber.None = hyphen ∷ []
-number (OptionNumber.Some n) = decimal n
+abbrev pub number : Option ℕ → List ℕ
+number None = hyphen ∷ []
+number (Some n) = decimal n
 
 -- PRG-2: "take shown state port mw" and a line feed
 abbrev pub header : List ℕ

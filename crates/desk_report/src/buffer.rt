@@ -1,19 +1,98 @@
-// A buffer in which lines are collected before they are written out.
-ghost use Rattle.std.specs.Prelude.{◌≡◌};
-ghost use Rattle.desk_report.specs.Buffer.{stored_at};
+// Bytes in a fixed memory: a line, the lines that are not written out yet, the input whose packets are not taken yet.
+ghost use Rattle.std.specs.Prelude.{◌≡◌, ◌+◌, ◌-◌, ◌≤◌, ◌++◌, [], List, ℕ, Option, length, drop};
+ghost use Rattle.std.specs.Option.{option_map};
+ghost use Rattle.desk_report.specs.Buffer.{added, given, Reads};
 
-use crate::text::put;
+use std::io::Read;
+use std::marker::Model;
 
-// Stores a line from a place on; one that has no room there is not stored.
-pub fn store(buffer: &mut [u8], at: usize, line: &[u8])
-    ensures { buffer.new ≡ stored_at buffer.old at line.now }
-{
-    let length = buffer.len();
-    if length < line.len() {
-        return;
+// At most N bytes, one after the other.
+#[derive(Drop)]
+pub struct Bytes<const N: usize> {
+    memory: [u8; N],
+    len: usize,
+}
+
+impl<const N: usize> Model for Bytes<N> {
+    ghost use Rattle.std.specs.Prelude.{◌≤◌, List, ℕ, take};
+
+    ghost Value = { List ℕ };
+
+    ghost view = { λ b. take b.len b.memory };
+
+    ghost invariant = { λ b. b.len ≤ N };
+}
+
+impl<const N: usize> Bytes<N> {
+    // None.
+    pub fn new() -> Self
+        ensures { result ≡ [] }
+    {
+        Bytes {
+            memory: [0; N],
+            len: 0,
+        }
     }
-    if length - line.len() < at {
-        return;
+
+    pub fn as_slice(&self) -> &[u8]
+        ensures value { result.now ≡ self.now }
+        ensures fits { length result.now ≤ N }
+    {
+        &self.memory[..self.len]
     }
-    put(buffer, at, line);
+
+    // How many more have room.
+    pub fn room(&self) -> usize
+        ensures value { result ≡ N - length self.now }
+        ensures fits { length self.now ≤ N }
+    {
+        N - self.len
+    }
+
+    pub fn clear(&mut self)
+        ensures { self.new ≡ [] }
+    {
+        self.len = 0;
+    }
+
+    // Adds bytes at the end; those that have no room are not stored.
+    pub fn extend(&mut self, bytes: &[u8])
+        ensures { self.new ≡ added N self.old bytes.now }
+    {
+        if bytes.len() <= self.room() {
+            self.push(bytes);
+        }
+    }
+
+    // Adds bytes that have room at the end.
+    pub(crate) fn push(&mut self, bytes: &[u8])
+        requires { length self.old + length bytes.now ≤ N }
+        ensures { self.new ≡ self.old ++ bytes.now }
+    {
+        let end = self.len + bytes.len();
+        let memory = &mut self.memory[..];
+        memory[self.len..end].copy_from_slice(bytes);
+        self.len = end;
+    }
+
+    // Reads once, after the bytes that are there, and says how many bytes came; none where the reader failed.
+    pub fn fill<R: Read>(&mut self, reader: &mut R) -> Option<usize>
+        ensures { (c : Option (List ℕ)) × (result ≡ option_map length c) × (self.new ≡ self.old ++ given c) × Reads N self.old (R.remaining reader.old) (R.remaining reader.new) c }
+    {
+        let memory = &mut self.memory[..];
+        let Ok(n) = reader.read(&mut memory[self.len..]) else {
+            return None;
+        };
+        self.len += n;
+        Some(n)
+    }
+
+    // Forgets the first n bytes: the others move to the front.
+    pub fn forget(&mut self, n: usize)
+        ensures { self.new ≡ drop n self.old }
+    {
+        let first = n.min(self.len);
+        self.memory.copy_within(first..self.len, 0);
+        self.len -= first;
+    }
 }

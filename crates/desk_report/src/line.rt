@@ -1,69 +1,100 @@
-// The lines of `follow`, each written at the front of a buffer; the bytes past it stay. A line takes at most 92 bytes.
-ghost use Rattle.std.specs.Prelude.{◌≡◌, length};
-ghost use Rattle.std.proofs.lemmas.List.Edits.{sets};
-ghost use Rattle.desk_report.specs.Text.{header};
-ghost use Rattle.desk_report.specs.Line.{line_of, line_bytes, refused_bytes};
+// The lines of `follow`. A line takes at most 92 bytes.
+ghost use Rattle.std.specs.Prelude.{◌≡◌, ◌++◌, ◌+◌, ◌≤◌, ◌∷◌, length};
+ghost use Rattle.abstract_page.specs.Text.{decimal, word};
+ghost use Rattle.power_policy_interface.specs.Refusal.{refusal_number};
+ghost use Rattle.desk_report.specs.Text.{header, number};
+ghost use Rattle.desk_report.specs.Line.{line_of, line_bytes, refused_bytes, spaced};
 
-use crate::text::{put, put_decimal, put_number, put_word};
-use desk_follower::{Follower, OptionNumber};
+use crate::buffer::Bytes;
+use crate::text::{decimal, word};
+use desk_follower::Follower;
 use interface_display::State;
+use power_policy_interface::refusal::Refusal;
 
 // What a line says of a follower.
 #[derive(Clone, Copy)]
 pub struct Line {
     // The number of the event shown.
-    pub shown: OptionNumber,
+    pub shown: Option<u32>,
     pub state: State,
     // The consumer's port and its mW.
-    pub port: OptionNumber,
-    pub mw: OptionNumber,
+    pub port: Option<u32>,
+    pub mw: Option<u32>,
+}
+
+// The decimal digits of a number.
+fn push_decimal(out: &mut Bytes<128>, n: u64)
+    requires { length out.old + 20 ≤ 128 }
+    ensures { (out.new ≡ out.old ++ decimal n) × (length out.new ≤ length out.old + 20) }
+{
+    out.push(decimal(n).as_slice());
+}
+
+// A number, or a hyphen for none, after a space.
+fn push_number(out: &mut Bytes<128>, n: Option<u32>)
+    requires { length out.old + 21 ≤ 128 }
+    ensures { (out.new ≡ out.old ++ spaced (number n)) × (length out.new ≤ length out.old + 21) }
+{
+    match n {
+        None => out.push(b" -"),
+        Some(v) => {
+            out.push(b" ");
+            push_decimal(out, v as u64);
+        }
+    }
+}
+
+// The word of a state, after a space.
+fn push_word(out: &mut Bytes<128>, state: State)
+    requires { length out.old + 8 ≤ 128 }
+    ensures { (out.new ≡ out.old ++ spaced (word state)) × (length out.new ≤ length out.old + 8) }
+{
+    out.push(b" ");
+    out.push(word(state));
 }
 
 impl Line {
     pub fn of(f: Follower) -> Line
         ensures { result ≡ line_of f }
     {
-        let shown = f.shown;
         Line {
-            shown: shown.number(),
+            shown: f.shown.number(),
             state: f.state(),
-            port: shown.port(),
-            mw: shown.mw(),
+            port: f.shown.port(),
+            mw: f.shown.mw(),
         }
     }
 
     // Ordinal, n, state, port, mW.
-    pub fn write(self, k: u64, out: &mut [u8; 128]) -> usize
-        ensures { (result ≡ length (line_bytes k self)) × (out.new ≡ sets out.old 0 (line_bytes k self)) }
+    pub fn write(self, k: u64) -> Bytes<128>
+        ensures { result ≡ line_bytes k self }
     {
-        let shown = self.shown;
-        let state = self.state;
-        let port = self.port;
-        let mw = self.mw;
-        let a = put_decimal(out, 0, k);
-        let b = put_number(out, a, shown);
-        let d = put_word(out, b, state);
-        let e = put_number(out, d, port);
-        let f = put_number(out, e, mw);
-        out[f] = b'\n';
-        f + 1
+        let mut out = Bytes::new();
+        push_decimal(&mut out, k);
+        push_number(&mut out, self.shown);
+        push_word(&mut out, self.state);
+        push_number(&mut out, self.port);
+        push_number(&mut out, self.mw);
+        out.push(b"\n");
+        out
     }
 }
 
 // `K refused N`.
-pub fn write_refused(k: u64, n: u8, out: &mut [u8; 128]) -> usize
-    ensures { (result ≡ length (refused_bytes k n)) × (out.new ≡ sets out.old 0 (refused_bytes k n)) }
+pub fn write_refused(k: u64, refusal: Refusal) -> Bytes<128>
+    ensures { result ≡ refused_bytes k (refusal_number refusal) }
 {
-    let a = put_decimal(out, 0, k);
-    let b = put(out, a, b" refused ");
-    let d = put_decimal(out, b, n as u64);
-    out[d] = b'\n';
-    d + 1
+    let mut out = Bytes::new();
+    push_decimal(&mut out, k);
+    out.push(b" refused ");
+    push_decimal(&mut out, u8::from(refusal) as u64);
+    out.push(b"\n");
+    out
 }
 
-// The header line.
-pub fn write_header(out: &mut [u8; 128]) -> usize
-    ensures { (result ≡ length header) × (out.new ≡ sets out.old 0 header) }
+// The header line, a fixed byte string.
+pub fn header() -> &'static [u8]
+    ensures { result.now ≡ header }
 {
-    put(out, 0, b"take shown state port mw\n")
+    b"take shown state port mw\n"
 }

@@ -1,103 +1,97 @@
-// Decimal digits and fixed words, as ASCII bytes written into a lent buffer.
-ghost use Rattle.std.specs.Prelude.{◌≡◌, ◌∷◌, ◌+◌, ◌≤◌, length, take, drop, replicate};
-ghost use Rattle.std.proofs.lemmas.List.Edits.{sets};
-ghost use Rattle.abstract_page.specs.Text.{blank, decimal, word};
-ghost use Rattle.desk_report.specs.Text.{number};
-ghost use Rattle.desk_report.specs.Line.{spaced};
+// Decimal digits and fixed words, as ASCII bytes.
+ghost use Rattle.std.specs.Prelude.{◌≡◌, ◌++◌, ◌+◌, ◌≤◌, ℕ, List, [], ◌∷◌, eqb, length};
+ghost use Rattle.abstract_page.specs.Text.{decimal, word};
+ghost use Rattle.desk_report.specs.Page.{Holds};
 
-use desk_follower::OptionNumber;
+use crate::buffer::Bytes;
 use interface_display::State;
 
-// A text that stands at the right of 20 columns, from a place on; blanks are before it.
+// Text at the right of 20 columns, written from its last byte on; blanks are before it. Of a text that is longer its end stands there.
 #[derive(Clone, Copy)]
-pub(crate) struct Right {
-    pub(crate) text: [u8; 20],
+pub(crate) struct Columns {
+    pub(crate) bytes: [u8; 20],
     pub(crate) from: usize,
+    ghost within: { from ≤ 20 },
 }
 
-// The decimal digits of a number; the last is stored first.
-pub(crate) fn digits_of(n: u64) -> Right
-    ensures { (drop result.from result.text ≡ decimal n) × (length result.text ≡ 20) × (result.from ≤ 20) × (take result.from result.text ≡ replicate result.from blank) }
-{
-    let mut text = [b' '; 20];
-    let mut from: usize = 20;
-    let mut rest = n;
-    while 0 < from {
-        from -= 1;
-        text[from] = 48 + (rest % 10) as u8;
-        rest = rest / 10;
-        if rest == 0 {
-            return Right { text, from };
+impl Columns {
+    // No text.
+    pub(crate) fn new() -> Columns
+        ensures { Holds result.bytes result.from [] }
+    {
+        Columns {
+            bytes: [b' '; 20],
+            from: 20,
         }
     }
-    Right { text, from }
-}
 
-// The writers below write from a place on and return the place after.
-
-// Bytes.
-pub(crate) fn put(out: &mut [u8], at: usize, s: &[u8]) -> usize
-    requires { at + length s.now ≤ length out.old }
-    ensures { (result ≡ at + length s.now) × (out.new ≡ sets out.old at s.now) }
-{
-    let mut next = at;
-    let mut i: usize = 0;
-    while i < s.len() {
-        out[next] = s[i];
-        next += 1;
-        i += 1;
+    // A text that has room.
+    pub(crate) fn of(text: &[u8]) -> Columns
+        requires { length text.now ≤ 20 }
+        ensures { Holds result.bytes result.from text.now }
+    {
+        let mut bytes = [b' '; 20];
+        let from = 20 - text.len();
+        bytes[from..].copy_from_slice(text);
+        Columns { bytes, from }
     }
-    next
+
+    pub(crate) fn is_empty(&self) -> bool
+        ensures { result ≡ eqb self.now.from 20 }
+    {
+        self.from == 20
+    }
+
+    // One byte before the text.
+    pub(crate) fn push(&mut self, b: u8)
+        ensures { (s : List ℕ) → Holds self.old.bytes self.old.from s → Holds self.new.bytes self.new.from (b ∷ s) }
+    {
+        if 0 < self.from {
+            self.from -= 1;
+            self.bytes[self.from] = b;
+        }
+    }
+
+    // The decimal digits of a number before the text: at most twenty, the last is stored first.
+    pub(crate) fn push_decimal(&mut self, n: u64)
+        ensures { (s : List ℕ) → Holds self.old.bytes self.old.from s → Holds self.new.bytes self.new.from (decimal n ++ s) }
+    {
+        let mut rest = n;
+        for _ in 0..20usize {
+            self.push(b'0' + (rest % 10) as u8);
+            rest /= 10;
+            if rest == 0 {
+                return;
+            }
+        }
+    }
+
+    // The text, where it is not longer than the columns.
+    pub(crate) fn text(&self) -> &[u8]
+        ensures { (s : List ℕ) → length s ≤ 20 → Holds self.now.bytes self.now.from s → result.now ≡ s }
+    {
+        &self.bytes[self.from..]
+    }
 }
 
 // The decimal digits of a number.
-pub(crate) fn put_decimal(out: &mut [u8], at: usize, n: u64) -> usize
-    requires { at + 20 ≤ length out.old }
-    ensures { (result ≡ at + length (decimal n)) × (out.new ≡ sets out.old at (decimal n)) × (result ≤ at + 20) }
+pub fn decimal(n: u64) -> Bytes<20>
+    ensures { result ≡ decimal n }
 {
-    let d = digits_of(n);
-    let from = d.from;
-    let text = d.text;
-    put(out, at, &text[from..])
+    let mut columns = Columns::new();
+    columns.push_decimal(n);
+    let mut digits = Bytes::new();
+    digits.push(columns.text());
+    digits
 }
 
-// A number, or a dash for none, after a space.
-pub(crate) fn put_number(out: &mut [u8], at: usize, n: OptionNumber) -> usize
-    requires { at + 21 ≤ length out.old }
-    ensures { (result ≡ at + length (spaced (number n))) × (out.new ≡ sets out.old at (spaced (number n))) × (result ≤ at + 21) }
-{
-    match n {
-        OptionNumber::None => {
-            return put(out, at, b" -");
-        }
-        OptionNumber::Some(v) => {
-            out[at] = b' ';
-            return put_decimal(out, at + 1, v as u64);
-        }
-    }
-}
-
-// The word of a state, after a space.
-pub(crate) fn put_word(out: &mut [u8], at: usize, state: State) -> usize
-    requires { at + 8 ≤ length out.old }
-    ensures { (result ≡ at + length (spaced (word state))) × (out.new ≡ sets out.old at (spaced (word state))) × (result ≤ at + 8) }
+// The word of a state, a fixed byte string: what is written is no more than these bytes.
+pub(crate) fn word(state: State) -> &'static [u8]
+    ensures { result.now ≡ word state }
 {
     match state {
-        State::Lost => {
-            return put(out, at, b" lost");
-        }
-        State::Level => {
-            return put(out, at, b" level");
-        }
-        State::Waiting => {
-            return put(out, at, b" waiting");
-        }
+        State::Lost => b"lost",
+        State::Level => b"level",
+        State::Waiting => b"waiting",
     }
-}
-
-// Writes the decimal digits of a number at the front of a buffer and returns how many there are; the bytes past them stay.
-pub fn write_decimal(n: u64, out: &mut [u8; 20]) -> usize
-    ensures { (result ≡ length (decimal n)) × (out.new ≡ sets out.old 0 (decimal n)) }
-{
-    put_decimal(out, 0, n)
 }

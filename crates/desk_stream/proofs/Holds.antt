@@ -10,52 +10,41 @@ use native.Mathlib.Omega.{arith}
 use lib.Dec.{leb}
 use lib.ListN.{length, take, drop, length-append, length-drop, drop_of_length-le}
 use lib.Seq.{sets, sets-eq, take_at, take_all as take_every, length-take-le, drop-drop}
-use borrow.Author.Tests.{le-leb, lt-leb}
+use borrow.Author.Tests.{le-leb, lt-leb, leb-true}
 use Rattle.wire_framing.specs.Framing.{framed}
-use Rattle.desk_report.specs.Buffer.{stored_at}
+use Rattle.desk_report.specs.Buffer.{added}
 use Rattle.desk_report.specs.Desk.{stepped_desk, stepped_bytes, stepped_next}
 use Rattle.desk_report.specs.Reads.{after_take, taking, take_all}
 use Rattle.desk_report.specs.declared.desk.Desk.{Desk}
 use Rattle.desk_report.specs.declared.desk.Next.{Next}
 use Rattle.desk_stream.specs.Held.{held, held_next, holding, held_all}
 
--- bytes stored in o after its first n
-stored : (o line l : List ℕ) (n : ℕ) → n + length line ≤ length o → l ≡ sets o n line → take (n + length line) l ≡ take n o ++ line
-stored o line l n k e =
-    let m = n + length line in
-    let z : length (take n o ++ line) ≡ m = omega (arith, length-append (take n o) line, length-take-le n o (omega arith)) in
-    rw (e, sets-eq line o n k) (take_at (take n o ++ line) (drop m o) m z)
+-- a line comes after the bytes b, or alone
 
--- and from the front on
-pub stored_front : (o line l : List ℕ) → length line ≤ length o → l ≡ sets o 0 line → take (length line) l ≡ line
-stored_front o line l k e =
-    let z : 0 + length line ≡ length line = zero-add (length line) in
-    rw z at (stored o line l 0 (omega arith) e)
+pub with_room : (b line l : List ℕ) → length b + length line ≤ 4096 → l ≡ b ++ line → l ≡ held b line
+unfolding held
+with_room b line l k e = rw (le-leb (length b + length line) 4096 k) e
 
--- a line comes after the first `full` bytes of the buffer o, or alone
-module _ (o line l : List ℕ) (full : ℕ) (size : length o ≡ 4096) (h : full ≤ 4096) where
-  before : length (take full o) ≡ full
-  before = length-take-le full o (omega arith)
+pub without_room : (b line l : List ℕ) → 4096 < length b + length line → l ≡ line → l ≡ held b line
+unfolding held
+without_room b line l k e = rw (lt-leb (length b + length line) 4096 k) e
 
-  pub after_room : full + length line ≤ 4096 → l ≡ stored_at o full line → take (full + length line) l ≡ take full o ++ line
-  after_room k e =
-      let n : full + length line ≤ length o = omega arith in
-      let s : l ≡ sets o full line = rw (le-leb (full + length line) (length o) n) at e in
-      stored o line l full n s
+-- a line that has room is stored
+pub stored : (b line l : List ℕ) → length b + length line ≤ 4096 → l ≡ added 4096 b line → l ≡ b ++ line
+stored b line l k e = rw (le-leb (length b + length line) 4096 k) at e
 
-  pub with_room : full + length line ≤ 4096 → l ≡ stored_at o full line → take (full + length line) l ≡ held (take full o) line
-  unfolding held
-  with_room k e = rw (before, le-leb (full + length line) 4096 k) (after_room k e)
+pub stored_alone : (b line l : List ℕ) → length line ≤ 4096 → b ≡ [] → l ≡ added 4096 b line → l ≡ line
+stored_alone b line l k n e =
+    let z : length b + length line ≤ 4096 = omega (arith, ap length n) in
+    rw n at (stored b line l z e)
 
-  pub after_full : length line ≤ 4096 → l ≡ stored_at o 0 line → take (length line) l ≡ line
-  after_full m e =
-      let n : 0 + length line ≤ length o = omega arith in
-      let s : l ≡ sets o 0 line = rw (le-leb (0 + length line) (length o) n) at e in
-      stored_front o line l (omega arith) s
-
-  pub without_room : 4096 < full + length line → length line ≤ 4096 → l ≡ stored_at o 0 line → take (length line) l ≡ held (take full o) line
-  unfolding held
-  without_room k m e = rw (before, lt-leb (full + length line) 4096 k) (after_full m e)
+pub held_short : (b line : List ℕ) → length line ≤ 4096 → length (held b line) ≤ 4096
+unfolding held
+held_short b line h = tested (leb (length b + length line) 4096) refl
+  where
+    tested : (t : Bool) → leb (length b + length line) 4096 ≡ t → length (cond t (b ++ line) line) ≤ 4096
+    tested true e = omega (arith, length-append b line, leb-true (length b + length line) 4096 e)
+    tested false e = h
 
 -- after some turns of `take_all` from the desk d₀: the desk d, the place u of the bytes s, the bytes b in the buffer
 abbrev pub Holds : Desk → List ℕ → Desk → ℕ → List ℕ → Type 0

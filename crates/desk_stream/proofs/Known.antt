@@ -9,7 +9,7 @@ use Prim.Native.Nat.{ℕ, ◌+◌, ◌-◌, ◌≤◌}
 use native.Mathlib.Omega.{arith}
 use lib.ListN.{length, take, drop, length-drop, drop_of_length-le}
 use lib.Seq.{take_all as take_every, take-add, drop-drop}
-use Rattle.std.specs.Prelude.{Option, None, Some, IfSome}
+use Rattle.std.specs.Prelude.{Option, None, Some, IfSome, Result, Ok, Err}
 use Rattle.std.specs.Io.KnownBytes.{Consumes, Keeps, IsAtEnd}
 use Rattle.std.proofs.KnownBytes.{Appends-nil, Appends-trans, Consumes-nil, Consumes-trans}
 use Rattle.desk_report.specs.Desk.{stepped_desk, stepped_bytes, stepped_next, end_bytes, output_of, desk_of}
@@ -21,7 +21,6 @@ use Rattle.desk_stream.specs.Took.{left, Took}
 use Rattle.desk_stream.specs.Known.{Wrote, Owes, Tells, PassesOn, Stops, Finishes, Fails, PassesAt, Passes, EndsOver}
 use Rattle.desk_stream.specs.declared.End.{End}
 use Rattle.desk_stream.specs.declared.sink.Sink.{Sink}
-use Rattle.desk_stream.specs.declared.take.Go.{Go}
 use Rattle.desk_stream.proofs.Takes.{reads_snoc}
 
 -- nothing is written yet
@@ -97,12 +96,8 @@ pub due_all : (d₀ d : Desk) (k : Sink) (s b : List ℕ) (w w' : Option (List �
 due_all d₀ d k s b w w' u h i = rw (append-nil b) at (rw (drop_of_length-le s h) at i)
 
 -- what stood in the buffer is written
-pub tells_written : (d : Desk) (k : Sink) (s : List ℕ) (w w' w'' : Option (List ℕ)) (b : List ℕ) (go : Go) → Tells d k s w w' b go → Wrote k w' w'' b
-    → Tells d k s w w'' [] go
-tells_written d k s w w' w'' b Go.On t h = owes_all k w w' w'' (take_all d s).written b t h
-tells_written d k s w w' w'' b (Go.Off End.Read) t h = owes_all k w w' w'' (take_all d s).written b t h
-tells_written d k s w w' w'' b (Go.Off End.Unread) t h = absurd t
-tells_written d k s w w' w'' b (Go.Off End.Unwritten) t h = tt
+pub tells_written : (k : Sink) (w w' w'' : Option (List ℕ)) (all b : List ℕ) → Owes k w w' all b → Wrote k w' w'' b → Wrote k w w'' all
+tells_written k w w' w'' all b o h = owes_wrote k w w'' all (owes_all k w w' w'' all b o h)
 
 -- a read that failed took nothing
 pub kept_none : (r r' : Option (List ℕ)) → Keeps r r' → Consumes r r' []
@@ -112,22 +107,17 @@ kept_none (Some x) (Some y) h = sym h
 
 -- the input has ended
 
-pub passes_finish : (d : Desk) (k : Sink) (b : List ℕ) (r r' w w' : Option (List ℕ)) (x : End) → (x ≡ End.Read → Wrote k w w' (end_bytes d b))
-    → (x ≡ End.Unread → ⊥) → Consumes r r' [] → IsAtEnd r' → PassesAt d k b r r' w w' d x
-passes_finish d k b r r' w w' End.Read h f c e = inl (c, e, refl, h refl)
-passes_finish d k b r r' w w' End.Unread h f c e = absurd (f refl)
-passes_finish d k b r r' w w' End.Unwritten h f c e = tt
+pub passes_finish : (d : Desk) (k : Sink) (b : List ℕ) (r r' w w' : Option (List ℕ)) → Wrote k w w' (end_bytes d b) → Consumes r r' [] → IsAtEnd r'
+    → PassesAt d k b r r' w w' d End.Read
+passes_finish d k b r r' w w' h c e = inl (c, e, refl, h)
 
--- n bytes were read after the first `have` of s, which stay
-pub passes_read : (d e : Desk) (k : Sink) (s x : List ℕ) (have n : ℕ) (kept : List ℕ) (r r' w w' : Option (List ℕ)) (go : Go)
-    → Took d k (take (have + n) x) e kept go → Tells d k (take (have + n) x) w w' [] go → take have x ≡ take have s → Consumes r r' (take n (drop have x))
-    → Passes d k (take have s) r r' w w' e kept go
-passes_read d e k s x have n kept r r' w w' Go.On t o p c =
-    (take n (drop have x), c, rw (← p, ← take-add have n x) t, rw (← p, ← take-add have n x) (owes_wrote k w w' (take_all d (take (have + n) x)).written o))
-passes_read d e k s x have n kept r r' w w' (Go.Off End.Read) t o p c =
-    inr (take n (drop have x), c, rw (← p, ← take-add have n x) t, rw (← p, ← take-add have n x) (owes_wrote k w w' (take_all d (take (have + n) x)).written o))
-passes_read d e k s x have n kept r r' w w' (Go.Off End.Unread) t o p c = absurd t
-passes_read d e k s x have n kept r r' w w' (Go.Off End.Unwritten) t o p c = tt
+-- bytes c were read after b
+pub passes_read : (d e : Desk) (k : Sink) (b c s kept : List ℕ) (r r' w w' : Option (List ℕ)) (go : Result (Unit {0}) End) → s ≡ b ++ c
+    → Took d k s e kept go → Tells d k s w w' go → Consumes r r' c → Passes d k b r r' w w' e kept go
+passes_read d e k b c s kept r r' w w' (Ok tt) p t o h = (c, h, rw p at t.1, rw p at o)
+passes_read d e k b c s kept r r' w w' (Err End.Read) p t o h = inr (c, h, rw p at t, rw p at o)
+passes_read d e k b c s kept r r' w w' (Err End.Unread) p t o h = absurd t
+passes_read d e k b c s kept r r' w w' (Err End.Unwritten) p t o h = tt
 
 -- from the desk d₀ on pieces l were read, and a run over them stands here and has written this
 abbrev pub Over : Desk → Sink → Option (List ℕ) → Option (List ℕ) → Option (List ℕ) → Option (List ℕ) → Desk → List ℕ → Type 0

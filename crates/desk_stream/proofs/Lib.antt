@@ -1,4 +1,3 @@
 pub mod Holds
 pub mod Known
-pub mod Moves
 pub mod Takes

@@ -1,5 +1,6 @@
 -- A turn of `take_all` from the place u of the bytes s is a step of `take_all`: the bytes given to the step are those from u on.
 -- Assumes nothing.
+use Rattle.std.specs.Prelude.{Result, Ok, Err}
 use mathlib.Core.Path.{◌≡◌, refl, ap, sym, ◌∙◌}
 use mathlib.Core.List.{List, [], ◌∷◌, ◌++◌}
 use mathlib.Core.Logic.{inl, inr, ⊎_elim}
@@ -14,12 +15,10 @@ use Rattle.desk_report.specs.declared.desk.Next.{Next}
 use Rattle.desk_report.proofs.Lengths.{used_bounds}
 use Rattle.desk_report.proofs.Whole.{take_step, kept_short}
 use Rattle.desk_stream.specs.Ran.{Seen, ended_by}
-use Rattle.desk_stream.specs.Took.{left, Took, Read, Stands, moved}
+use Rattle.desk_stream.specs.Took.{left, Took, Read, Stands}
 use Rattle.desk_stream.specs.declared.End.{End}
 use Rattle.desk_stream.specs.declared.Ended.{Ended}
 use Rattle.desk_stream.specs.declared.sink.Sink.{Sink}
-use Rattle.desk_stream.specs.declared.take.Go.{Go}
-use Rattle.desk_stream.proofs.Moves.{moved_front, moved_length}
 
 module _
     (d₀ d e : Desk) (s : List ℕ) (u : ℕ) (n : Next) (h : u ≤ length s)
@@ -51,24 +50,20 @@ module _
 pub none_more : (d : Desk) (s : List ℕ) (u : ℕ) → length s ≤ u → left (take_all d (drop u s)) ≡ go_on d (drop u s)
 none_more d s u h = rw (drop_of_length-le s h)
 
--- what is kept stands at the front, and is short
-pub kept_front : (d e : Desk) (s x : List ℕ) (from to have : ℕ) → from ≤ to → to ≤ length s
-    → left (take_all d (take to s)) ≡ go_on e (slice from to s) → have ≡ to - from → x ≡ moved from to s
-    → (have ≤ 68) × (length x ≡ length s) × (left (take_all d (take to s)) ≡ go_on e (take have x))
-kept_front d e s x from to have h k p q r =
-    let z : (take_all d (take to s)).kept ≡ slice from to s = ap (λ (t : Turn). t.kept) p in
-    let m : length (slice from to s) ≤ 68 = rw z at (kept_short d (take to s)) in
-    (omega (arith, m, length-slice from to s k), rw r (moved_length from to s h k), rw (r, q, moved_front from to s k) p)
+-- what is kept is short
+pub kept_few : (d e : Desk) (s kept : List ℕ) → left (take_all d s) ≡ go_on e kept → length kept ≤ 68
+kept_few d e s kept p =
+    let z : (take_all d s).kept ≡ kept = ap (λ (t : Turn). t.kept) p in
+    rw z at (kept_short d s)
 
--- n bytes were read after the first `have` of s, which stay
-pub read_after : (d e : Desk) (k : Sink) (s x : List ℕ) (have n : ℕ) (kept : List ℕ) (go : Go) → Took d k (take (have + n) x) e kept go
-    → take have x ≡ take have s → Read d k (take have s) e kept go
-read_after d e k s x have n kept Go.On t p = (take n (drop have x), rw (← p, ← take-add have n x) t)
-read_after d e k s x have n kept (Go.Off End.Read) t p =
-    let z : (take_all d (take (have + n) x)).desk ≡ e = ap (λ (t : Turn). t.desk) t in
-    (tt, inr (take n (drop have x), rw (← p, ← take-add have n x) z))
-read_after d e k s x have n kept (Go.Off End.Unread) t p = absurd t
-read_after d e k s x have n kept (Go.Off End.Unwritten) t p = (t.0, inl t.1)
+-- bytes c were read after b
+pub read_after : (d e : Desk) (k : Sink) (b c s kept : List ℕ) (r : Result (Unit {0}) End) → s ≡ b ++ c → Took d k s e kept r → Read d k b e kept r
+read_after d e k b c s kept (Ok tt) p t = (t.0, (c, rw p at t.1))
+read_after d e k b c s kept (Err End.Read) p t =
+    let z : (take_all d s).desk ≡ e = ap (λ (x : Turn). x.desk) t in
+    (tt, inr (c, rw p at z))
+read_after d e k b c s kept (Err End.Unread) p t = absurd t
+read_after d e k b c s kept (Err End.Unwritten) p t = (t.0, inl t.1)
 
 pub reads_snoc : (t : Turn) (l : List (List ℕ)) (c : List ℕ) → reads t (l ++ (c ∷ [])) ≡ read_on (reads t l) c
 reads_snoc t [] c = refl
@@ -82,8 +77,8 @@ piece_more d₀ d b c s =
     ap left (reads_snoc (begin d₀ []) s.0 c)
     ∙ rw (ap (λ (x : Turn). x.more) w, ap (λ (x : Turn). x.desk) w, ap (λ (x : Turn). x.kept) w) refl
 
-pub stands_on : (d₀ d e : Desk) (k : Sink) (b kept : List ℕ) → Stands d₀ d b → Read d k b e kept Go.On → Stands d₀ e kept
-stands_on d₀ d e k b kept s r = (s.0 ++ (r.0 ∷ []), piece_more d₀ d b r.0 s ∙ r.1)
+pub stands_on : (d₀ d e : Desk) (k : Sink) (b kept : List ℕ) → Stands d₀ d b → Read d k b e kept (Ok tt) → Stands d₀ e kept
+stands_on d₀ d e k b kept s r = (s.0 ++ (r.1.0 ∷ []), piece_more d₀ d b r.1.0 s ∙ r.1.1)
 
 -- or the end
 
@@ -93,7 +88,7 @@ ended_at x e = record { desk = e; end = x }
 pub stands_end : (d₀ d : Desk) (b : List ℕ) (x : End) → Stands d₀ d b → (w : Seen) × (ended_at x d ≡ ended_by d₀ w)
 stands_end d₀ d b x s = (record { pieces = s.0; end = x }, ap (ended_at x) (sym (ap (λ (t : Turn). t.desk) s.1)))
 
-pub stands_off : (d₀ d e : Desk) (k : Sink) (b kept : List ℕ) (x : End) → Stands d₀ d b → Read d k b e kept (Go.Off x)
+pub stands_off : (d₀ d e : Desk) (k : Sink) (b kept : List ℕ) (x : End) → Stands d₀ d b → Read d k b e kept (Err x)
     → (w : Seen) × (ended_at x e ≡ ended_by d₀ w)
 stands_off d₀ d e k b kept x s r =
     ⊎_elim

@@ -1,5 +1,5 @@
 -- What a run did to a reader and a writer whose bytes are known, as std's KnownBytes has it: of one whose are not, nothing is said.
-use Rattle.std.specs.Prelude.{ℕ, ◌≡◌, true, List, [], ◌++◌, ◌⊎◌, Option}
+use Rattle.std.specs.Prelude.{ℕ, ◌≡◌, true, List, [], ◌++◌, ◌⊎◌, Option, Result, Ok, Err}
 use mathlib.Core.List.{flatten}
 use Rattle.std.specs.Io.KnownBytes.{Appends, Consumes, IsAtEnd}
 use Rattle.desk_report.specs.Desk.{end_bytes}
@@ -8,7 +8,6 @@ use Rattle.desk_report.specs.declared.desk.Desk.{Desk}
 use Rattle.desk_stream.specs.declared.End.{End}
 use Rattle.desk_stream.specs.declared.Ended.{Ended}
 use Rattle.desk_stream.specs.declared.sink.Sink.{Sink}
-use Rattle.desk_stream.specs.declared.take.Go.{Go}
 use Rattle.desk_stream.specs.Took.{left}
 
 -- where lines are needed, the bytes b were written
@@ -19,16 +18,16 @@ Wrote k w w' b = k.needed ≡ true → Appends w w' b
 abbrev pub Owes : Sink → Option (List ℕ) → Option (List ℕ) → List ℕ → List ℕ → Type 0
 Owes k w w' b c = (x : List ℕ) × (x ++ c ≡ b) × Wrote k w w' x
 
--- the packets in s were taken from the desk d: of their lines all were written but c, which are still to be
+-- the packets in s were taken from the desk d, and their lines written
 
-abbrev pub TellsAt : Desk → Sink → List ℕ → Option (List ℕ) → Option (List ℕ) → List ℕ → End → Type 0
-TellsAt d k s w w' c End.Read = Owes k w w' (take_all d s).written c
-TellsAt d k s w w' c End.Unread = ⊥
-TellsAt d k s w w' c End.Unwritten = Unit {0}
+abbrev pub TellsAt : Desk → Sink → List ℕ → Option (List ℕ) → Option (List ℕ) → End → Type 0
+TellsAt d k s w w' End.Read = Wrote k w w' (take_all d s).written
+TellsAt d k s w w' End.Unread = ⊥
+TellsAt d k s w w' End.Unwritten = Unit {0}
 
-abbrev pub Tells : Desk → Sink → List ℕ → Option (List ℕ) → Option (List ℕ) → List ℕ → Go → Type 0
-Tells d k s w w' c Go.On = Owes k w w' (take_all d s).written c
-Tells d k s w w' c (Go.Off x) = TellsAt d k s w w' c x
+abbrev pub Tells : Desk → Sink → List ℕ → Option (List ℕ) → Option (List ℕ) → Result (Unit {0}) End → Type 0
+Tells d k s w w' (Ok tt) = Wrote k w w' (take_all d s).written
+Tells d k s w w' (Err x) = TellsAt d k s w w' x
 
 -- a turn, from the desk d with the bytes b kept: it reads on at the desk e; a refused length stops it there; the input has ended; or it
 -- could not be read
@@ -52,9 +51,9 @@ PassesAt d k b r r' w w' e End.Read = Finishes d k b r r' w w' e ⊎ Stops d k b
 PassesAt d k b r r' w w' e End.Unread = Fails d k r r' w w' e
 PassesAt d k b r r' w w' e End.Unwritten = Unit {0}
 
-abbrev pub Passes : Desk → Sink → List ℕ → Option (List ℕ) → Option (List ℕ) → Option (List ℕ) → Option (List ℕ) → Desk → List ℕ → Go → Type 0
-Passes d k b r r' w w' e kept Go.On = PassesOn d k b r r' w w' e kept
-Passes d k b r r' w w' e kept (Go.Off x) = PassesAt d k b r r' w w' e x
+abbrev pub Passes : Desk → Sink → List ℕ → Option (List ℕ) → Option (List ℕ) → Option (List ℕ) → Option (List ℕ) → Desk → List ℕ → Result (Unit {0}) End → Type 0
+Passes d k b r r' w w' e kept (Ok tt) = PassesOn d k b r r' w w' e kept
+Passes d k b r r' w w' e kept (Err x) = PassesAt d k b r r' w w' e x
 
 -- a run from the desk d read these pieces: it ended at the desk of a run over them, and wrote what that writes. One that ended between
 -- packets, or in one, left nothing to be read

@@ -7,14 +7,14 @@ mod input;
 pub mod sink;
 mod take;
 
-ghost use Rattle.std.specs.Prelude.{◌≡◌, ◌<◌, length, IfSome};
+ghost use Rattle.std.specs.Prelude.{◌≡◌, [], IfSome};
 ghost use Rattle.desk_report.specs.Desk.{output_of, desk_of};
 ghost use Rattle.desk_stream.specs.Ran.{Seen, ended_by, Ends};
-ghost use Rattle.desk_stream.specs.Known.{Wrote, RunsOver};
+ghost use Rattle.desk_stream.specs.Known.{Wrote, EndsOver, RunsOver};
 
-use crate::input::read_on;
-use crate::sink::Sink;
-use crate::take::Go;
+use crate::input::Stream;
+use crate::sink::{Lines, Sink};
+use desk_report::buffer::Bytes;
 use desk_report::desk::Desk;
 use std::io::{Read, Write};
 
@@ -35,39 +35,18 @@ pub struct Ended {
     pub end: End,
 }
 
-// A proved loop has to end: it counts its turns down, from a number that no run uses up.
-fn turns<R: Read, W: Write>(
-    mut desk: Desk,
-    sink: Sink,
-    reader: &mut R,
-    out: &mut W,
-    input: &mut [u8],
-    buffer: &mut [u8; 4096],
-) -> Ended
-    requires { 68 < length input.old }
-    ensures value { ((w : Seen) × (result ≡ ended_by desk w)) × Ends sink result.end }
-    ensures over { RunsOver desk sink (R.remaining reader.old) (R.remaining reader.new) (W.contents out.old) (W.contents out.new) result }
+// A proved loop has to end: it reads as often as no run does.
+fn turns<R: Read, W: Write>(stream: &mut Stream, reader: &mut R, out: &mut W) -> End
+    requires { stream.old.input ≡ [] }
+    ensures value { ((w : Seen) × (record { desk = stream.new.desk; end = result } ≡ ended_by stream.old.desk w)) × Ends stream.old.lines.sink result }
+    ensures over { EndsOver stream.old.desk stream.old.lines.sink (R.remaining reader.old) (R.remaining reader.new) (W.contents out.old) (W.contents out.new) stream.new.desk result }
 {
-    let mut have: usize = 0;
-    let mut rest: u64 = 18446744073709551615;
-    while 0 < rest {
-        let turn = read_on(desk, sink, reader, out, input, have, buffer);
-        desk = turn.desk;
-        let go = turn.go;
-        match go {
-            Go::On => {
-                have = turn.have;
-                rest -= 1;
-            }
-            Go::Off(end) => {
-                return Ended { desk, end };
-            }
+    for _ in 0..u64::MAX {
+        if let Err(end) = stream.read_on(reader, out) {
+            return end;
         }
     }
-    Ended {
-        desk,
-        end: End::Unread,
-    }
+    End::Unread
 }
 
 // Reads to the end, from this desk on. Where lines could not be written, the desk is the one before the read that gave them.
@@ -78,7 +57,17 @@ pub fn run<R: Read, W: Write>(desk: Desk, sink: Sink, reader: &mut R, out: &mut 
     // Of a reader whose bytes are known: the desk at their end, and what is written for them all, however they were read.
     ensures whole { result.end ≡ End.Read → IfSome (R.remaining reader.old) (λ s. (result.desk ≡ desk_of desk s) × Wrote sink (W.contents out.old) (W.contents out.new) (output_of desk s)) }
 {
-    let mut input = [0u8; 4096];
-    let mut buffer = [0u8; 4096];
-    turns(desk, sink, reader, out, &mut input, &mut buffer)
+    let mut stream = Stream {
+        desk,
+        lines: Lines {
+            sink,
+            bytes: Bytes::new(),
+        },
+        input: Bytes::new(),
+    };
+    let end = turns(&mut stream, reader, out);
+    Ended {
+        desk: stream.desk,
+        end,
+    }
 }

@@ -1,11 +1,12 @@
-// Where lines go. They are collected in a lent buffer, which is written out where the next line has no room in it, and always before the
+// Where lines go. They are collected in a fixed memory, which is written out where the next line has no room in it, and always before the
 // next read, so that no line waits for a packet that has yet to come.
-ghost use Rattle.std.specs.Prelude.{◌≡◌, ◌≤◌, ◌++◌, length, take, true};
+ghost use Rattle.std.specs.Prelude.{◌≡◌, ◌≤◌, ◌++◌, [], length, OnOk};
 ghost use Rattle.desk_stream.specs.Ran.{Goes};
 ghost use Rattle.desk_stream.specs.Held.{held};
 ghost use Rattle.desk_stream.specs.Known.{Wrote, Owes};
 
-use desk_report::buffer::store;
+use crate::End;
+use desk_report::buffer::Bytes;
 use std::io::Write;
 
 #[derive(Clone, Copy)]
@@ -14,49 +15,53 @@ pub struct Sink {
     pub needed: bool,
 }
 
-// So many bytes stand in the buffer; whether to go on.
-#[derive(Clone, Copy)]
-pub(crate) struct Added {
-    pub full: usize,
-    pub on: bool,
+impl Sink {
+    // Writes bytes.
+    pub(crate) fn write<W: Write>(self, out: &mut W, bytes: &[u8]) -> Result<(), End>
+        ensures goes { Goes self result }
+        ensures wrote { OnOk result (Wrote self (W.contents out.old) (W.contents out.new) bytes.now) }
+    {
+        if out.write_all(bytes).is_err() && self.needed {
+            return Err(End::Unwritten);
+        }
+        Ok(())
+    }
 }
 
-// Writes out the first bytes of the buffer, and says whether to go on.
-pub(crate) fn write_out<W: Write>(sink: Sink, out: &mut W, buffer: &[u8], full: usize) -> bool
-    requires { full ≤ length buffer.now }
-    ensures goes { Goes sink result }
-    ensures wrote { result ≡ true → Wrote sink (W.contents out.old) (W.contents out.new) (take full buffer.now) }
-{
-    if out.write_all(&buffer[..full]).is_ok() {
-        return true;
-    }
-    if sink.needed {
-        return false;
-    }
-    true
+// Lines, those that are not written out yet.
+#[derive(Drop)]
+pub(crate) struct Lines {
+    pub(crate) sink: Sink,
+    pub(crate) bytes: Bytes<4096>,
 }
 
-// Adds a line to the buffer. Where it has no room, what stands there is written out first.
-pub(crate) fn add<W: Write>(
-    sink: Sink,
-    out: &mut W,
-    buffer: &mut [u8; 4096],
-    full: usize,
-    line: &[u8],
-) -> Added
-    requires { (full ≤ 4096) × (length line.now ≤ 4096) }
-    ensures added { (result.full ≤ 4096) × (take result.full buffer.new ≡ held (take full buffer.old) line.now) × Goes sink result.on }
-    ensures owes { result.on ≡ true → Owes sink (W.contents out.old) (W.contents out.new) (take full buffer.old ++ line.now) (take result.full buffer.new) }
-{
-    let n = line.len();
-    if n <= 4096 - full {
-        store(buffer, full, line);
-        return Added {
-            full: full + n,
-            on: true,
-        };
+impl Lines {
+    // Writes out what stands there.
+    pub(crate) fn write_out<W: Write>(&mut self, out: &mut W) -> Result<(), End>
+        ensures same { self.new.sink ≡ self.old.sink }
+        ensures goes { Goes self.old.sink result }
+        ensures wrote { OnOk result (Wrote self.old.sink (W.contents out.old) (W.contents out.new) self.old.bytes) }
+        ensures empty { OnOk result (self.new.bytes ≡ []) }
+    {
+        self.sink.write(out, self.bytes.as_slice())?;
+        self.bytes.clear();
+        Ok(())
     }
-    let on = write_out(sink, out, buffer, full);
-    store(buffer, 0, line);
-    Added { full: n, on }
+
+    // Adds a line. Where it has no room, what stands there is written out first.
+    pub(crate) fn add<W: Write>(&mut self, out: &mut W, line: &[u8]) -> Result<(), End>
+        requires { length line.now ≤ 4096 }
+        ensures same { self.new.sink ≡ self.old.sink }
+        ensures goes { Goes self.old.sink result }
+        ensures held { OnOk result (self.new.bytes ≡ held self.old.bytes line.now) }
+        ensures owes { OnOk result (Owes self.old.sink (W.contents out.old) (W.contents out.new) (self.old.bytes ++ line.now) self.new.bytes) }
+    {
+        if line.len() <= self.bytes.room() {
+            self.bytes.extend(line);
+            return Ok(());
+        }
+        self.write_out(out)?;
+        self.bytes.extend(line);
+        Ok(())
+    }
 }

@@ -1,21 +1,18 @@
 -- The definitions are the set of heapless's documentation: a port's membership is its bit, and inserting or removing it changes that bit alone.
 -- Assumes nothing.
+use Rattle.std.specs.Prelude.{Ok, Err}
 use mathlib.Core.Path.{◌≡◌, refl, ap, sym, ◌∙◌}
 use mathlib.Core.Bool.{Bool, true, false, cond, not, ◌&&◌, ◌||◌, or-true, or-false, and-true, and-false}
-use Prim.Native.Nat.{ℕ, ◌+◌, ◌%◌, ◌^◌, ◌<◌, ◌≤◌}
-use native.Mathlib.Nat.{zero-div}
+use Prim.Native.Nat.{ℕ, ◌+◌, ◌^◌, ◌<◌, ◌≤◌}
 use native.Mathlib.Omega.{arith}
 use lib.Bits.{bit_or, bit_xor}
 use lib.Dec.{eqb, ltb}
 use borrow.Author.Tests.{eqb-true, eqb-false, ltb-true, lt-ltb}
 use Rattle.power_policy_interface.proofs.Conjunction.{and_both}
-use Rattle.interface_display.specs.Providers.{max_connected_providers, bit_at, contains, len, room}
+use Rattle.interface_display.specs.Providers.{max_connected_providers, bit_at, contains, len, room, Inserted, Removed}
 use Rattle.interface_display.specs.Set.{SetLaws, more}
-use Rattle.interface_display.specs.declared.providers.Insert.{Insert}
-use Rattle.interface_display.specs.declared.providers.Inserted.{Inserted}
 use Rattle.interface_display.specs.declared.providers.Providers.{Providers}
-use Rattle.interface_display.specs.declared.providers.Removed.{Removed}
-use Rattle.interface_display.proofs.Count.{bit_le}
+use Rattle.std.proofs.lemmas.Nat.Bits.{bit_at-lt, bit_at-zero}
 use Rattle.interface_display.proofs.OneBit.{set_bit, set_others, cleared_bit, cleared_others, ones_but}
 
 -- a port with its bit set, and without
@@ -34,7 +31,7 @@ member s p e =
 not_member : (s : Providers) (p : ℕ) → p < 16 → contains s p ≡ false → bit_at s.mask p ≡ 0
 not_member s p l e =
     let f : eqb (bit_at s.mask p) 1 ≡ false = rw (lt-ltb p 16 l) at e in
-    omega (arith, bit_le s.mask p, eqb-false (bit_at s.mask p) 1 f)
+    omega (arith, bit_at-lt s.mask p, eqb-false (bit_at s.mask p) 1 f)
 
 pub has_room : (s : Providers) (p : ℕ) → room s p ≡ true → (p < 16) × (len s < max_connected_providers)
 has_room s p e =
@@ -70,8 +67,8 @@ one_less a b m e l = omega (arith, e, l)
 
 abbrev pub inserted : Providers → ℕ → Bool → Bool → Inserted
 inserted s p c r =
-    cond c (record { found = Insert.Present; providers = s })
-    (cond r (record { found = Insert.Added; providers = with s p }) (record { found = Insert.Full; providers = s }))
+    cond c (record { found = Ok false; providers = s })
+    (cond r (record { found = Ok true; providers = with s p }) (record { found = Err p; providers = s }))
 
 abbrev pub removed : Providers → ℕ → Bool → Removed
 removed s p c = cond c (record { found = true; providers = without s p }) (record { found = false; providers = s })
@@ -110,9 +107,6 @@ found_is : (s : Providers) (p : ℕ) (c : Bool) → (removed s p c).found ≡ c
 found_is s p true = refl
 found_is s p false = refl
 
-none_bit : (q : ℕ) → bit_at 0 q ≡ 0
-none_bit q = ap (λ (x : ℕ). x % 2) (zero-div (2 ^ q))
-
 without_room : (s : Providers) (p q : ℕ) → len s ≤ max_connected_providers → contains s p ≡ true → q < 16 → room (without s p) q ≡ true
 without_room s p q l e i =
     let h : len (without s p) < max_connected_providers = one_less (len (without s p)) (len s) max_connected_providers (removed_length s p true e) l in
@@ -122,7 +116,7 @@ pub set_laws : SetLaws
 set_laws =
     record {
       capacity = refl;
-      none_there = λ q. rw (none_bit q) (and-false (ltb q 16));
+      none_there = λ q. rw (bit_at-zero q) (and-false (ltb q 16));
       none_length = refl;
       room_is = λ s p. (has_room s p, λ h. rw (lt-ltb p 16 h.0, lt-ltb (len s) max_connected_providers h.1));
       present = λ s p e. rw e;

@@ -1,15 +1,14 @@
 -- PKT-8: the notices of an event: four places, of which the first `count` are meant.
-use Rattle.std.specs.Prelude.{ℕ, zero, suc, Bool, true, false, ◌&&◌, List, [], ◌∷◌, eqb, leb, length, take, drop}
+use Rattle.std.specs.Prelude.{ℕ, ◌+◌, Bool, true, false, cond, ◌&&◌, List, [], ◌∷◌, ◌++◌, eqb, leb, ltb, length, take, drop, None}
 use Rattle.power_policy_interface.specs.Limits.{max_notices}
 use Rattle.power_policy_interface.specs.Capability.{disconnect_byte}
-use Rattle.power_policy_interface.specs.declared.capability.OptionDisconnectReason.{OptionDisconnectReason}
 use Rattle.power_policy_interface.specs.declared.service.event.Event.{Event}
 use Rattle.interface_display.specs.Display.{applied_to}
 use Rattle.interface_display.specs.declared.Display.{Display}
 use Rattle.interface_display.specs.declared.notices.Notices.{Notices}
 
 abbrev pub places : Notices → List Event
-places n = n.first ∷ n.second ∷ n.third ∷ n.fourth ∷ []
+places n = n.events
 
 -- what is meant; of a count above four, all four
 abbrev pub listed : Notices → List Event
@@ -20,21 +19,14 @@ length_of n = length (listed n)
 
 -- what stands in a place past the count
 abbrev pub filler : Event
-filler = Event.ConsumerDisconnected 0 (record { reason = OptionDisconnectReason.None })
+filler = Event.ConsumerDisconnected 0 (record { reason = None })
 
 abbrev pub empty : Notices
-empty = record { count = 0; first = filler; second = filler; third = filler; fourth = filler }
+empty = record { count = 0; events = filler ∷ filler ∷ filler ∷ filler ∷ [] }
 
--- after k of them, the next place is set; a fifth notice is dropped
-abbrev pub pushed_at : ℕ → Notices → Event → Notices
-pushed_at zero n e = record { count = 1; first = e; second = n.second; third = n.third; fourth = n.fourth }
-pushed_at (suc zero) n e = record { count = 2; first = n.first; second = e; third = n.third; fourth = n.fourth }
-pushed_at (suc (suc zero)) n e = record { count = 3; first = n.first; second = n.second; third = e; fourth = n.fourth }
-pushed_at (suc (suc (suc zero))) n e = record { count = 4; first = n.first; second = n.second; third = n.third; fourth = e }
-pushed_at (suc (suc (suc (suc k)))) n e = n
-
+-- the notice stands in the place after those that are meant; a fifth notice is dropped
 abbrev pub pushed : Notices → Event → Notices
-pushed n e = pushed_at n.count n e
+pushed n e = cond (ltb n.count max_notices) (record { count = n.count + 1; events = listed n ++ (e ∷ drop (n.count + 1) (places n)) }) n
 
 -- FOL-9: the first is applied first
 abbrev pub applied_all : List Event → Display → Display
@@ -58,4 +50,4 @@ all_filler [] = true
 all_filler (e ∷ l) = is_filler e && all_filler l
 
 abbrev pub padded : Notices → Bool
-padded n = leb n.count max_notices && all_filler (drop n.count (places n))
+padded n = leb n.count max_notices && (eqb (length (places n)) max_notices && all_filler (drop n.count (places n)))

@@ -1,13 +1,10 @@
 -- DEM-2a: the set of fixed capacity, from heapless's documentation: `insert` of a value that is there changes nothing, of a new one adds
 -- it unless the set is full; `remove` says whether it was there. The values are ports 0 to 15, a bit each; there is never room for another
 -- number, which REF-23 and the reader keep out. Set.antt says the same over membership alone.
-use Rattle.std.specs.Prelude.{ℕ, zero, suc, ◌+◌, ◌/◌, ◌%◌, ◌^◌, Bool, true, false, cond, ◌&&◌, ltb, eqb}
+use Rattle.std.specs.Prelude.{ℕ, zero, suc, ◌+◌, ◌/◌, ◌%◌, ◌^◌, Bool, true, false, cond, ◌&&◌, ltb, eqb, Result, Ok, Err}
 use Rattle.std.specs.Int.Bits.{bit_or, bit_xor}
 use Rattle.power_policy_interface.specs.Limits.{max_ports}
 use Rattle.interface_display.specs.declared.providers.Providers.{Providers}
-use Rattle.interface_display.specs.declared.providers.Insert.{Insert}
-use Rattle.interface_display.specs.declared.providers.Inserted.{Inserted}
-use Rattle.interface_display.specs.declared.providers.Removed.{Removed}
 
 -- the Rust's MAX_CONNECTED_PROVIDERS
 abbrev pub max_connected_providers : ℕ
@@ -34,11 +31,21 @@ len s = ones s.mask max_ports
 abbrev pub room : Providers → ℕ → Bool
 room s p = ltb p max_ports && ltb (len s) max_connected_providers
 
+-- what an insert finds, and the set after it: whether the value was added, or, if there is no room, the value itself
+pub record Inserted : Type 0 where
+  pub found : Result Bool ℕ
+  pub providers : Providers
+
+-- whether a removal finds the value, and the set after it
+pub record Removed : Type 0 where
+  pub found : Bool
+  pub providers : Providers
+
 abbrev pub insert_of : Providers → ℕ → Inserted
 insert_of s p =
-    cond (contains s p) (record { found = Insert.Present; providers = s })
-    (cond (room s p) (record { found = Insert.Added; providers = record { mask = bit_or s.mask (2 ^ p) } })
-    (record { found = Insert.Full; providers = s }))
+    cond (contains s p) (record { found = Ok false; providers = s })
+    (cond (room s p) (record { found = Ok true; providers = record { mask = bit_or s.mask (2 ^ p) } })
+    (record { found = Err p; providers = s }))
 
 abbrev pub remove_of : Providers → ℕ → Removed
 remove_of s p =

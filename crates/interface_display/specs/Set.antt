@@ -1,16 +1,14 @@
 -- DEM-2a: what heapless's documentation says of a set of fixed capacity, over membership: which values are there after `insert` and `remove`, how
 -- many, and what is found. The values are ports, so that there is room for a number below 16 alone. Proved in proofs/Set.antt.
-use Rattle.std.specs.Prelude.{ℕ, ◌+◌, ◌<◌, ◌≤◌, true, false, cond, not, ◌&&◌, ◌||◌, ◌↔◌, ◌≡◌, eqb}
+use Rattle.std.specs.Prelude.{ℕ, ◌+◌, ◌<◌, ◌≤◌, true, false, cond, not, ◌&&◌, ◌||◌, ◌↔◌, ◌≡◌, eqb, Bool, Result, Ok, Err}
 use Rattle.power_policy_interface.specs.Limits.{max_ports}
 use Rattle.interface_display.specs.Providers.{max_connected_providers, none, contains, len, room, insert_of, remove_of}
-use Rattle.interface_display.specs.declared.providers.Insert.{Insert}
 use Rattle.interface_display.specs.declared.providers.Providers.{Providers}
 
 -- how many values more after an insert
-abbrev pub more : Insert → ℕ
-more Insert.Present = 0
-more Insert.Added = 1
-more Insert.Full = 0
+abbrev pub more : Result Bool ℕ → ℕ
+more (Ok added) = cond added 1 0
+more (Err p) = 0
 
 pub record SetLaws : Type 0 where
   -- the capacity of the Rust's set
@@ -21,11 +19,11 @@ pub record SetLaws : Type 0 where
   -- there is room for a port while fewer than the capacity are there
   pub room_is : (s : Providers) (p : ℕ) → (room s p ≡ true) ↔ ((p < max_ports) × (len s < max_connected_providers))
   -- a value that is there is found, also in a full set, and nothing changes
-  pub present : (s : Providers) (p : ℕ) → contains s p ≡ true → insert_of s p ≡ record { found = Insert.Present; providers = s }
+  pub present : (s : Providers) (p : ℕ) → contains s p ≡ true → insert_of s p ≡ record { found = Ok false; providers = s }
   -- a new value is added if there is room
-  pub added : (s : Providers) (p : ℕ) → contains s p ≡ false → room s p ≡ true → (insert_of s p).found ≡ Insert.Added
+  pub added : (s : Providers) (p : ℕ) → contains s p ≡ false → room s p ≡ true → (insert_of s p).found ≡ Ok true
   -- else the set is full and nothing changes
-  pub full : (s : Providers) (p : ℕ) → contains s p ≡ false → room s p ≡ false → insert_of s p ≡ record { found = Insert.Full; providers = s }
+  pub full : (s : Providers) (p : ℕ) → contains s p ≡ false → room s p ≡ false → insert_of s p ≡ record { found = Err p; providers = s }
   -- after an insert a value is there if it was, or if it is the one and there was room
   pub insert_there : (s : Providers) (p q : ℕ) → contains (insert_of s p).providers q ≡ (contains s q || eqb q p && room s p)
   -- one more if it was added, else as many

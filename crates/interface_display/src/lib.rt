@@ -15,29 +15,22 @@ use power_policy_interface::service::UnconstrainedState;
 use power_policy_interface::service::event::Event;
 
 // A consumer: its port and the capability it was connected with (consumer.rs).
-#[derive(Clone, Copy)]
+#[derive(Clone, Copy, PartialEq, Eq)]
 pub struct AvailableConsumer {
     pub psu: u8,
     pub consumer_power_capability: ConsumerPowerCapability,
 }
 
-// Option<AvailableConsumer>.
-#[derive(Clone, Copy)]
-pub enum OptionAvailableConsumer {
-    None,
-    Some(AvailableConsumer),
-}
-
 // Consumer, unconstrained figures and tracked providers.
-#[derive(Clone, Copy)]
+#[derive(Clone, Copy, PartialEq, Eq)]
 pub struct Display {
-    pub consumer: OptionAvailableConsumer,
+    pub consumer: Option<AvailableConsumer>,
     pub unconstrained: UnconstrainedState,
     pub providers: Providers,
 }
 
 // What a follower says of itself.
-#[derive(Clone, Copy)]
+#[derive(Clone, Copy, PartialEq, Eq)]
 pub enum State {
     Lost,
     // Showing n with nothing held.
@@ -52,7 +45,7 @@ impl Display {
         ensures { result ≡ fresh }
     {
         Display {
-            consumer: OptionAvailableConsumer::None,
+            consumer: None,
             unconstrained: UnconstrainedState {
                 unconstrained: false,
                 available: 0,
@@ -63,49 +56,24 @@ impl Display {
 
     // The display after a notice: a consumer disconnected leaves none, one connected sets it; a provider disconnected is
     // untracked, one connected is tracked if there or fewer than four are; the unconstrained figures are set.
-    pub fn apply(self, notice: Event) -> Display
-        ensures { result ≡ applied_to self notice }
+    pub fn apply(&mut self, notice: Event)
+        ensures { self.new ≡ applied_to self.old notice }
     {
-        let consumer = self.consumer;
-        let unconstrained = self.unconstrained;
-        let providers = self.providers;
         match notice {
-            Event::ConsumerDisconnected(_, _) => Display {
-                consumer: OptionAvailableConsumer::None,
-                unconstrained,
-                providers,
-            },
-            Event::ConsumerConnected(psu, consumer_power_capability) => Display {
-                consumer: OptionAvailableConsumer::Some(AvailableConsumer {
+            Event::ConsumerDisconnected(_, _) => self.consumer = None,
+            Event::ConsumerConnected(psu, consumer_power_capability) => {
+                self.consumer = Some(AvailableConsumer {
                     psu,
                     consumer_power_capability,
-                }),
-                unconstrained,
-                providers,
-            },
+                });
+            }
             Event::ProviderDisconnected(port) => {
-                let removed = providers.remove(port);
-                let left = removed.providers;
-                Display {
-                    consumer,
-                    unconstrained,
-                    providers: left,
-                }
+                let _ = self.providers.remove(port);
             }
             Event::ProviderConnected(port, _) => {
-                let inserted = providers.insert(port);
-                let more = inserted.providers;
-                Display {
-                    consumer,
-                    unconstrained,
-                    providers: more,
-                }
+                let _ = self.providers.insert(port);
             }
-            Event::Unconstrained(figures) => Display {
-                consumer,
-                unconstrained: figures,
-                providers,
-            },
+            Event::Unconstrained(figures) => self.unconstrained = figures,
         }
     }
 }

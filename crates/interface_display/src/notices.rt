@@ -3,17 +3,18 @@ ghost use Rattle.std.specs.Prelude.{◌≡◌};
 ghost use Rattle.interface_display.specs.Notices.{empty, pushed, length_of, all_applied};
 
 use crate::Display;
-use power_policy_interface::capability::{DisconnectFlags, OptionDisconnectReason};
+use power_policy_interface::capability::DisconnectFlags;
+use power_policy_interface::limits::MAX_NOTICES;
 use power_policy_interface::service::event::Event;
 
+// One for each notice that an event can have.
+pub const PLACES: usize = MAX_NOTICES as usize;
+
 // The first `count` of the four places are meant; those past them hold a consumer disconnected at port 0 with no reason.
-#[derive(Clone, Copy)]
+#[derive(Clone, Copy, PartialEq, Eq)]
 pub struct Notices {
     pub count: u8,
-    pub first: Event,
-    pub second: Event,
-    pub third: Event,
-    pub fourth: Event,
+    pub events: [Event; PLACES],
 }
 
 impl Notices {
@@ -21,70 +22,21 @@ impl Notices {
     pub fn new() -> Self
         ensures { result ≡ empty }
     {
-        let filler = Event::ConsumerDisconnected(
-            0,
-            DisconnectFlags {
-                reason: OptionDisconnectReason::None,
-            },
-        );
+        let filler = Event::ConsumerDisconnected(0, DisconnectFlags { reason: None });
         Notices {
             count: 0,
-            first: filler,
-            second: filler,
-            third: filler,
-            fourth: filler,
+            events: [filler; PLACES],
         }
     }
 
     // One notice more; a fifth is dropped (no event gives five).
-    pub fn push(self, e: Event) -> Notices
-        ensures { result ≡ pushed self e }
+    #[tactic(auto, using(crate::proofs::Four::set_next))]
+    pub fn push(&mut self, e: Event)
+        ensures { self.new ≡ pushed self.old e }
     {
-        let count = self.count;
-        let first = self.first;
-        let second = self.second;
-        let third = self.third;
-        let fourth = self.fourth;
-        match count {
-            0 => {
-                return Notices {
-                    count: 1,
-                    first: e,
-                    second,
-                    third,
-                    fourth,
-                };
-            }
-            1 => {
-                return Notices {
-                    count: 2,
-                    first,
-                    second: e,
-                    third,
-                    fourth,
-                };
-            }
-            2 => {
-                return Notices {
-                    count: 3,
-                    first,
-                    second,
-                    third: e,
-                    fourth,
-                };
-            }
-            3 => {
-                return Notices {
-                    count: 4,
-                    first,
-                    second,
-                    third,
-                    fourth: e,
-                };
-            }
-            _ => {
-                return self;
-            }
+        if self.count < MAX_NOTICES {
+            self.events[self.count as usize] = e;
+            self.count += 1;
         }
     }
 
@@ -92,36 +44,17 @@ impl Notices {
     pub fn len(self) -> u8
         ensures { result ≡ length_of self }
     {
-        if 4 < self.count {
-            return 4;
-        }
-        self.count
+        self.count.min(MAX_NOTICES)
     }
 
     // A display after all of them in order.
+    #[tactic(auto, using(crate::proofs::Four::applied_next))]
     pub fn apply(self, mut d: Display) -> Display
         ensures { result ≡ all_applied self d }
     {
-        let count = self.count;
-        if count == 0 {
-            return d;
+        for e in &self.events[..self.len() as usize] {
+            d.apply(*e);
         }
-        let mut e = self.first;
-        d = d.apply(e);
-        if count == 1 {
-            return d;
-        }
-        e = self.second;
-        d = d.apply(e);
-        if count == 2 {
-            return d;
-        }
-        e = self.third;
-        d = d.apply(e);
-        if count == 3 {
-            return d;
-        }
-        e = self.fourth;
-        d.apply(e)
+        d
     }
 }

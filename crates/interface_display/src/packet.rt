@@ -3,7 +3,7 @@ use crate::Display;
 use crate::notices::Notices;
 
 // The packet of event `number`, from 1.
-#[derive(Clone, Copy)]
+#[derive(Clone, Copy, PartialEq, Eq)]
 pub struct EventPacket {
     pub number: u32,
     // The answer byte: 0 done, else the error's, 1 to 10.
@@ -14,13 +14,13 @@ pub struct EventPacket {
 }
 
 // What is held at event `number`; 0 is the start.
-#[derive(Clone, Copy)]
+#[derive(Clone, Copy, PartialEq, Eq)]
 pub struct Picture {
     pub number: u32,
     pub display: Display,
 }
 
-#[derive(Clone, Copy)]
+#[derive(Clone, Copy, PartialEq, Eq)]
 pub enum Packet {
     Event(EventPacket),
     Picture(Picture),

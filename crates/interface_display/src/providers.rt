@@ -5,39 +5,12 @@ ghost use Rattle.interface_display.specs.Providers.{none, contains, len, insert_
 use power_policy_interface::limits::MAX_PORTS;
 
 // The most that are tracked at a time.
-pub const MAX_CONNECTED_PROVIDERS: u16 = 4;
-
-// A set has a bit for each port.
-const PORTS: u16 = MAX_PORTS as u16;
+pub const MAX_CONNECTED_PROVIDERS: u32 = 4;
 
 // A bit for each port, built and tested by shifts; at most four are set.
-#[derive(Clone, Copy)]
+#[derive(Clone, Copy, PartialEq, Eq)]
 pub struct Providers {
     pub mask: u16,
-}
-
-// What inserting finds.
-#[derive(Clone, Copy)]
-pub enum Insert {
-    // It was there already.
-    Present,
-    // It was added.
-    Added,
-    // It is not there, and there is no room.
-    Full,
-}
-
-#[derive(Clone, Copy)]
-pub struct Inserted {
-    pub found: Insert,
-    pub providers: Providers,
-}
-
-#[derive(Clone, Copy)]
-pub struct Removed {
-    // It was there.
-    pub found: bool,
-    pub providers: Providers,
 }
 
 impl Providers {
@@ -51,77 +24,41 @@ impl Providers {
     pub fn contains(self, port: u8) -> bool
         ensures { result ≡ contains self port }
     {
-        if port < MAX_PORTS {
-            return self.mask >> port & 1 == 1;
-        }
-        false
+        port < MAX_PORTS && self.mask >> port & 1 == 1
     }
 
     // How many ports are tracked.
-    pub fn len(self) -> u16
+    #[tactic(auto, using(crate::proofs::Count::ones_counted))]
+    pub fn len(self) -> u32
         ensures { result ≡ len self }
     {
-        let mask = self.mask;
-        let mut n: u16 = 0;
-        let mut i: u16 = 0;
-        while i < PORTS {
-            n += mask >> i & 1;
-            i += 1;
-        }
-        n
+        self.mask.count_ones()
     }
 
-    // Inserts a port: it is there already, is added, or there is no room for it.
-    pub fn insert(self, port: u8) -> Inserted
-        ensures { result ≡ insert_of self port }
+    // Inserts a port: whether it was added, as it was not there yet; the port itself if there is no room for it.
+    pub fn insert(&mut self, port: u8) -> Result<bool, u8>
+        ensures found { result ≡ (insert_of self.old port).found }
+        ensures after { self.new ≡ (insert_of self.old port).providers }
     {
         if self.contains(port) {
-            return Inserted {
-                found: Insert::Present,
-                providers: self,
-            };
+            return Ok(false);
         }
-        if MAX_PORTS <= port {
-            return Inserted {
-                found: Insert::Full,
-                providers: self,
-            };
+        if MAX_PORTS <= port || MAX_CONNECTED_PROVIDERS <= self.len() {
+            return Err(port);
         }
-        if MAX_CONNECTED_PROVIDERS <= self.len() {
-            return Inserted {
-                found: Insert::Full,
-                providers: self,
-            };
-        }
-        Inserted {
-            found: Insert::Added,
-            providers: Providers {
-                mask: self.mask | 1 << port,
-            },
-        }
+        self.mask |= 1 << port;
+        Ok(true)
     }
 
-    // Removes a port: it was there or not.
-    pub fn remove(self, port: u8) -> Removed
-        ensures { result ≡ remove_of self port }
+    // Removes a port: whether it was there.
+    pub fn remove(&mut self, port: u8) -> bool
+        ensures found { result ≡ (remove_of self.old port).found }
+        ensures after { self.new ≡ (remove_of self.old port).providers }
     {
-        if MAX_PORTS <= port {
-            return Removed {
-                found: false,
-                providers: self,
-            };
+        let found = self.contains(port);
+        if found {
+            self.mask ^= 1 << port;
         }
-        if self.contains(port) {
-            return Removed {
-                found: true,
-                providers: Providers {
-                    mask: self.mask ^ 1 << port,
-                },
-            };
-        }
-        Removed {
-            found: false,
-            providers: self,
-        }
+        found
     }
 }

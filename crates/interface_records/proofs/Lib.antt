@@ -1,4 +1,4 @@
 pub mod Groups
 pub mod OneRecord
 pub mod OneRow
-pub mod Row
+pub mod Reading

@@ -1,9 +1,9 @@
 -- A row has one encoding, since each of its records has: by induction on the number of records.
 -- Assumes nothing.
+use Rattle.std.specs.Prelude.{None, Option, Some}
 use mathlib.Core.Path.{◌≡◌, refl, ap, sym, ◌∙◌}
 use mathlib.Core.Bool.{Bool, true, false}
 use mathlib.Core.List.{List, [], ◌∷◌, ◌++◌}
-use mathlib.Core.Option.{Option, none, some}
 use Prim.Native.Nat.{ℕ, zero, suc, ◌+◌, ◌*◌, ◌<◌, ◌≤◌}
 use native.Mathlib.Nat.{suc-mul, zero-mul}
 use native.Mathlib.Omega.{arith}
@@ -14,10 +14,8 @@ use borrow.Author.Tests.{ltb-true, ltb-false}
 use Rattle.power_policy_interface.specs.declared.charger.State as charger
 use Rattle.power_policy_interface.specs.declared.psu.State as psu
 use Rattle.interface_records.specs.Row.{AllBytes, cons_option, records, written}
-use Rattle.interface_records.specs.Psu.{psu_bytes, psu_from, read_psu}
-use Rattle.interface_records.specs.Charger.{charger_bytes, charger_from, read_charger}
-use Rattle.interface_records.specs.declared.psu.ReadPsu.{ReadPsu}
-use Rattle.interface_records.specs.declared.charger.ReadCharger.{ReadCharger}
+use Rattle.interface_records.specs.Psu.{psu_bytes, psu_from}
+use Rattle.interface_records.specs.Charger.{charger_bytes, charger_from}
 use Rattle.interface_records.proofs.OneRecord.{psu_read_write, psu_write_read, charger_read_write, charger_write_read}
 
 drop_bytes : (w : ℕ) (s : List ℕ) → AllBytes s → AllBytes (drop w s)
@@ -34,21 +32,21 @@ take_bytes_lem w s h k = take_tested w s k (ltb k w) refl h
 
 module _ {A : Type 0} (read : List ℕ → Option A) (write : A → List ℕ) (w : ℕ) where
   -- every record is written in w bytes, and read back
-  pub back : ((a : A) → length (write a) ≡ w) → ((a : A) → read (write a) ≡ some a) → (l : List A)
-      → records read w (length l) (written write l) ≡ some l
+  pub back : ((a : A) → length (write a) ≡ w) → ((a : A) → read (write a) ≡ Some a) → (l : List A)
+      → records read w (length l) (written write l) ≡ Some l
   back hw hr [] = refl
   back hw hr (a ∷ l) =
       rw (take_at (write a) (written write l) w (hw a), drop_at (write a) (written write l) w (hw a), hr a, back hw hr l)
 
-  cons_told : (o : Option A) (r : Option (List A)) (l : List A) → cons_option o r ≡ some l
-      → (a : A) × (m : List A) × (o ≡ some a) × (r ≡ some m) × (l ≡ a ∷ m)
-  cons_told none r l e = absurd (let z : ◌≡◌ {A = ℕ} 0 1 = cc in omega arith)
-  cons_told (some a) none l e = absurd (let z : ◌≡◌ {A = ℕ} 0 1 = cc in omega arith)
-  cons_told (some a) (some m) l e = (a, m, refl, refl, (let k : l ≡ a ∷ m = cc in k))
+  cons_told : (o : Option A) (r : Option (List A)) (l : List A) → cons_option o r ≡ Some l
+      → (a : A) × (m : List A) × (o ≡ Some a) × (r ≡ Some m) × (l ≡ a ∷ m)
+  cons_told None r l e = absurd (cc)
+  cons_told (Some a) None l e = absurd (cc)
+  cons_told (Some a) (Some m) l e = (a, m, refl, refl, (let k : l ≡ a ∷ m = cc in k))
 
   -- bytes that are read as a row were written so
-  pub forth : ((s : List ℕ) (a : A) → AllBytes s → read s ≡ some a → s ≡ write a) → (n : ℕ) (s : List ℕ) (l : List A)
-      → length s ≡ n * w → AllBytes s → records read w n s ≡ some l → (s ≡ written write l) × (length l ≡ n)
+  pub forth : ((s : List ℕ) (a : A) → AllBytes s → read s ≡ Some a → s ≡ write a) → (n : ℕ) (s : List ℕ) (l : List A)
+      → length s ≡ n * w → AllBytes s → records read w n s ≡ Some l → (s ≡ written write l) × (length l ≡ n)
   forth hs zero [] l e h q = (let k : l ≡ [] = cc in rw k, (let k : l ≡ [] = cc in rw k))
   forth hs zero (x ∷ s) l e h q = absurd (omega (arith, rw zero-mul at e))
   forth hs (suc n) s l e h q =
@@ -60,27 +58,19 @@ module _ {A : Type 0} (read : List ℕ → Option A) (write : A → List ℕ) (w
       let p : s ≡ write c.0 ++ written write c.1 = sym (take-append-drop w s) ∙ (λ i. a i ++ r.0 i) in
       (p ∙ ap (written write) (sym c.4), ap length c.4 ∙ ap suc r.1)
 
-psu_told : (r : ReadPsu) (p : psu.State) → read_psu r ≡ some p → r ≡ ReadPsu.Read p
-psu_told ReadPsu.Refused p q = absurd (let z : ◌≡◌ {A = ℕ} 0 1 = cc in omega arith)
-psu_told (ReadPsu.Read x) p q = ap ReadPsu.Read (let k : x ≡ p = cc in k)
-
-pub psus_read_write : (l : List psu.State) → records (λ (b : List ℕ). read_psu (psu_from b)) 18 (length l) (written psu_bytes l) ≡ some l
-psus_read_write l = back (λ (b : List ℕ). read_psu (psu_from b)) psu_bytes 18 (λ p. refl) (λ p. ap read_psu (psu_read_write p)) l
+pub psus_read_write : (l : List psu.State) → records psu_from 18 (length l) (written psu_bytes l) ≡ Some l
+psus_read_write l = back psu_from psu_bytes 18 (λ p. refl) psu_read_write l
 
 pub psus_write_read : (n : ℕ) (s : List ℕ) (l : List psu.State) → length s ≡ n * 18 → AllBytes s
-    → records (λ (b : List ℕ). read_psu (psu_from b)) 18 n s ≡ some l → (s ≡ written psu_bytes l) × (length l ≡ n)
+    → records psu_from 18 n s ≡ Some l → (s ≡ written psu_bytes l) × (length l ≡ n)
 psus_write_read n s l e h q =
-    forth (λ (b : List ℕ). read_psu (psu_from b)) psu_bytes 18 (λ b p h r. psu_write_read b p h (psu_told (psu_from b) p r)) n s l e h q
-
-charger_told : (r : ReadCharger) (p : charger.State) → read_charger r ≡ some p → r ≡ ReadCharger.Read p
-charger_told ReadCharger.Refused p q = absurd (let z : ◌≡◌ {A = ℕ} 0 1 = cc in omega arith)
-charger_told (ReadCharger.Read x) p q = ap ReadCharger.Read (let k : x ≡ p = cc in k)
+    forth psu_from psu_bytes 18 psu_write_read n s l e h q
 
 pub chargers_read_write : (l : List charger.State)
-    → records (λ (b : List ℕ). read_charger (charger_from b)) 7 (length l) (written charger_bytes l) ≡ some l
-chargers_read_write l = back (λ (b : List ℕ). read_charger (charger_from b)) charger_bytes 7 (λ p. refl) (λ p. ap read_charger (charger_read_write p)) l
+    → records charger_from 7 (length l) (written charger_bytes l) ≡ Some l
+chargers_read_write l = back charger_from charger_bytes 7 (λ p. refl) charger_read_write l
 
 pub chargers_write_read : (n : ℕ) (s : List ℕ) (l : List charger.State) → length s ≡ n * 7 → AllBytes s
-    → records (λ (b : List ℕ). read_charger (charger_from b)) 7 n s ≡ some l → (s ≡ written charger_bytes l) × (length l ≡ n)
+    → records charger_from 7 n s ≡ Some l → (s ≡ written charger_bytes l) × (length l ≡ n)
 chargers_write_read n s l e h q =
-    forth (λ (b : List ℕ). read_charger (charger_from b)) charger_bytes 7 (λ b p h r. charger_write_read b p h (charger_told (charger_from b) p r)) n s l e h q
+    forth charger_from charger_bytes 7 charger_write_read n s l e h q

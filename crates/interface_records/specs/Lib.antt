@@ -2,3 +2,4 @@ pub mod Group
 pub mod Row
 pub mod Psu
 pub mod Charger
+pub mod Encodings

@@ -1,12 +1,83 @@
 // The group of six bytes: a number and a capability.
-ghost use Rattle.std.specs.Prelude.{◌≡◌, ◌+◌, get_or};
-ghost use Rattle.interface_records.specs.Group.{group_at, capability_from, consumer_from, provider_from, all_zero, option_consumer_from, option_provider_from, empty_group, consumer_group, provider_group, option_consumer_group, option_provider_group};
+ghost use Rattle.std.specs.Prelude.{◌≡◌, ℕ, ◌+◌, Option, get_or};
+ghost use Rattle.power_policy_interface.specs.Capability.{consumer_flags_byte, consumer_flags_from, provider_flags_byte, provider_flags_from};
+ghost use Rattle.power_policy_interface.specs.declared.capability.PowerCapability.{PowerCapability};
+ghost use Rattle.interface_records.specs.Group.{OneEncoding, group_at, capability_group, capability_from, consumer_with, provider_with, all_zero, option_from, empty_group, option_group, power_bytes, power_of};
+ghost use Rattle.interface_records.specs.Encodings.{consumer_encoding, provider_encoding};
 
 use power_policy_interface::capability::{
-    ConsumerFlags, ConsumerPowerCapability, OptionConsumerFlags, OptionConsumerPowerCapability,
-    OptionProviderFlags, OptionProviderPowerCapability, PowerCapability, ProviderFlags,
-    ProviderPowerCapability,
+    ConsumerFlags, ConsumerPowerCapability, PowerCapability, ProviderFlags, ProviderPowerCapability,
 };
+
+// A capability with the flags of its side, as a group carries it.
+pub trait FlaggedCapability: Copy {
+    ghost capability_of: { Self → PowerCapability };
+
+    ghost flags_of: { Self → ℕ };
+
+    ghost parts_from: { PowerCapability → ℕ → Option Self };
+
+    // mV and mA.
+    fn capability(self) -> PowerCapability
+        ensures { result ≡ capability_of self };
+
+    // The flag byte.
+    fn flags(self) -> u8
+        ensures { result ≡ flags_of self };
+
+    // mV and mA with the flags of a byte, none where the byte is refused.
+    fn from_parts(capability: PowerCapability, flags: u8) -> Option<Self>
+        ensures { result ≡ parts_from capability flags };
+
+    // A capability has one encoding.
+    ghost one_encoding: { OneEncoding capability_of flags_of parts_from };
+}
+
+impl FlaggedCapability for ConsumerPowerCapability {
+    ghost capability_of = { λ c. c.capability };
+
+    ghost flags_of = { λ c. consumer_flags_byte c.flags };
+
+    ghost parts_from = { λ p b. consumer_with p (consumer_flags_from b) };
+
+    ghost one_encoding = { consumer_encoding };
+
+    fn capability(self) -> PowerCapability {
+        self.capability
+    }
+
+    fn flags(self) -> u8 {
+        u8::from(self.flags)
+    }
+
+    fn from_parts(capability: PowerCapability, flags: u8) -> Option<Self> {
+        let flags = ConsumerFlags::try_from(flags).ok()?;
+        Some(ConsumerPowerCapability { capability, flags })
+    }
+}
+
+impl FlaggedCapability for ProviderPowerCapability {
+    ghost capability_of = { λ c. c.capability };
+
+    ghost flags_of = { λ c. provider_flags_byte c.flags };
+
+    ghost parts_from = { λ p b. provider_with p (provider_flags_from b) };
+
+    ghost one_encoding = { provider_encoding };
+
+    fn capability(self) -> PowerCapability {
+        self.capability
+    }
+
+    fn flags(self) -> u8 {
+        u8::from(self.flags)
+    }
+
+    fn from_parts(capability: PowerCapability, flags: u8) -> Option<Self> {
+        let flags = ProviderFlags::try_from(flags).ok()?;
+        Some(ProviderPowerCapability { capability, flags })
+    }
+}
 
 // Six bytes by value.
 #[derive(Clone, Copy)]
@@ -19,22 +90,8 @@ pub struct Group {
     pub flags: u8,
 }
 
-// What reading a group as an optional consumer capability finds.
-#[derive(Clone, Copy)]
-pub enum ReadConsumer {
-    Refused,
-    Read(OptionConsumerPowerCapability),
-}
-
-// What reading a group as an optional provider capability finds.
-#[derive(Clone, Copy)]
-pub enum ReadProvider {
-    Refused,
-    Read(OptionProviderPowerCapability),
-}
-
 impl Group {
-    // The six bytes from a position on; zeros stand for bytes past the end.
+    // The six bytes from a position on. A position and no part of the slice, which may be short: zeros stand past its end.
     pub fn at(s: &[u8], at: usize) -> Group
         ensures { result ≡ group_at s.now at }
     {
@@ -52,10 +109,7 @@ impl Group {
     pub fn capability(self) -> PowerCapability
         ensures { result ≡ capability_from self }
     {
-        PowerCapability {
-            voltage_mv: (self.v0 as u16) + (self.v1 as u16) * 256,
-            current_ma: (self.c0 as u16) + (self.c1 as u16) * 256,
-        }
+        power_of([self.v0, self.v1, self.c0, self.c1])
     }
 
     // Whether the capability's bytes are zeros.
@@ -70,75 +124,21 @@ impl Group {
             == 0
     }
 
-    // The group's capability with consumer flags, none where the flag byte is refused.
-    pub fn consumer(self) -> OptionConsumerPowerCapability
-        ensures { result ≡ consumer_from self }
+    // The group's capability with flags, none where the flag byte is refused.
+    pub fn flagged<C: FlaggedCapability>(self) -> Option<C>
+        ensures { result ≡ C.parts_from (capability_from self) self.flags }
     {
-        let capability = self.capability();
-        match ConsumerFlags::from_byte(self.flags) {
-            OptionConsumerFlags::None => OptionConsumerPowerCapability::None,
-            OptionConsumerFlags::Some(flags) => {
-                OptionConsumerPowerCapability::Some(ConsumerPowerCapability { capability, flags })
-            }
-        }
+        C::from_parts(self.capability(), self.flags)
     }
 
-    // The group's capability with provider flags, none where the flag byte is refused.
-    pub fn provider(self) -> OptionProviderPowerCapability
-        ensures { result ≡ provider_from self }
+    // A presence byte and a capability with flags.
+    pub fn option_flagged<C: FlaggedCapability>(self) -> Option<Option<C>>
+        ensures { result ≡ option_from (λ g. C.parts_from (capability_from g) g.flags) self }
     {
-        let capability = self.capability();
-        match ProviderFlags::from_byte(self.flags) {
-            OptionProviderFlags::None => OptionProviderPowerCapability::None,
-            OptionProviderFlags::Some(flags) => {
-                OptionProviderPowerCapability::Some(ProviderPowerCapability { capability, flags })
-            }
-        }
-    }
-
-    // A presence byte and a consumer capability.
-    pub fn option_consumer(self) -> ReadConsumer
-        ensures { result ≡ option_consumer_from self }
-    {
-        let number = self.number;
-        match number {
-            0 => {
-                if self.is_zero() {
-                    ReadConsumer::Read(OptionConsumerPowerCapability::None)
-                } else {
-                    ReadConsumer::Refused
-                }
-            }
-            1 => match self.consumer() {
-                OptionConsumerPowerCapability::None => ReadConsumer::Refused,
-                OptionConsumerPowerCapability::Some(c) => ReadConsumer::Read(
-                    OptionConsumerPowerCapability::Some(c),
-                ),
-            },
-            _ => ReadConsumer::Refused,
-        }
-    }
-
-    // A presence byte and a provider capability.
-    pub fn option_provider(self) -> ReadProvider
-        ensures { result ≡ option_provider_from self }
-    {
-        let number = self.number;
-        match number {
-            0 => {
-                if self.is_zero() {
-                    ReadProvider::Read(OptionProviderPowerCapability::None)
-                } else {
-                    ReadProvider::Refused
-                }
-            }
-            1 => match self.provider() {
-                OptionProviderPowerCapability::None => ReadProvider::Refused,
-                OptionProviderPowerCapability::Some(c) => ReadProvider::Read(
-                    OptionProviderPowerCapability::Some(c),
-                ),
-            },
-            _ => ReadProvider::Refused,
+        match self.number {
+            0 if self.is_zero() => Some(None),
+            1 => Some(Some(self.flagged()?)),
+            _ => None,
         }
     }
 
@@ -156,67 +156,57 @@ impl Group {
         }
     }
 
-    // A number and a consumer capability.
-    pub fn of_consumer(number: u8, c: ConsumerPowerCapability) -> Group
-        ensures { result ≡ consumer_group number c }
+    // A number and a capability with flags.
+    pub fn of<C: FlaggedCapability>(number: u8, c: C) -> Group
+        ensures { result ≡ capability_group number (C.capability_of c) (C.flags_of c) }
     {
-        let p = c.capability;
-        let f = c.flags;
+        let [v0, v1, c0, c1] = power_bytes(c.capability());
         Group {
             number,
-            v0: (p.voltage_mv % 256) as u8,
-            v1: (p.voltage_mv / 256) as u8,
-            c0: (p.current_ma % 256) as u8,
-            c1: (p.current_ma / 256) as u8,
-            flags: f.byte(),
+            v0,
+            v1,
+            c0,
+            c1,
+            flags: c.flags(),
         }
     }
 
-    // A number and a provider capability.
-    pub fn of_provider(number: u8, c: ProviderPowerCapability) -> Group
-        ensures { result ≡ provider_group number c }
-    {
-        let p = c.capability;
-        let f = c.flags;
-        Group {
-            number,
-            v0: (p.voltage_mv % 256) as u8,
-            v1: (p.voltage_mv / 256) as u8,
-            c0: (p.current_ma % 256) as u8,
-            c1: (p.current_ma / 256) as u8,
-            flags: f.byte(),
-        }
-    }
-
-    // A presence byte and a consumer capability, zeros if absent.
-    pub fn of_option_consumer(c: OptionConsumerPowerCapability) -> Group
-        ensures { result ≡ option_consumer_group c }
+    // A presence byte and a capability with flags, zeros if absent.
+    pub fn of_option<C: FlaggedCapability>(c: Option<C>) -> Group
+        ensures { result ≡ option_group (λ n d. capability_group n (C.capability_of d) (C.flags_of d)) c }
     {
         match c {
-            OptionConsumerPowerCapability::None => Group::empty(0),
-            OptionConsumerPowerCapability::Some(c) => Group::of_consumer(1, c),
-        }
-    }
-
-    // A presence byte and a provider capability, zeros if absent.
-    pub fn of_option_provider(c: OptionProviderPowerCapability) -> Group
-        ensures { result ≡ option_provider_group c }
-    {
-        match c {
-            OptionProviderPowerCapability::None => Group::empty(0),
-            OptionProviderPowerCapability::Some(c) => Group::of_provider(1, c),
+            None => Group::empty(0),
+            Some(c) => Group::of(1, c),
         }
     }
 }
 
-// Byte k after a position, 0 past the end.
-fn byte(s: &[u8], at: usize, k: usize) -> u8
+// mV and mA as four bytes, the low bytes first.
+pub fn power_bytes(c: PowerCapability) -> [u8; 4]
+    ensures { result ≡ power_bytes c }
+{
+    let [v0, v1] = c.voltage_mv.to_le_bytes();
+    let [c0, c1] = c.current_ma.to_le_bytes();
+    [v0, v1, c0, c1]
+}
+
+// mV and mA of four bytes.
+pub fn power_of(b: [u8; 4]) -> PowerCapability
+    ensures { result ≡ power_of b }
+{
+    PowerCapability {
+        voltage_mv: u16::from_le_bytes([b[0], b[1]]),
+        current_ma: u16::from_le_bytes([b[2], b[3]]),
+    }
+}
+
+// Byte k after a position, 0 past the end: zeros stand for what bytes cut short do not have.
+pub fn byte(s: &[u8], at: usize, k: usize) -> u8
     ensures { result ≡ get_or s.now (at + k) 0 }
 {
-    if at < s.len() {
-        if k < s.len() - at {
-            return s[at + k];
-        }
+    match s.get(at..) {
+        None => 0,
+        Some(s) => s.get(k).copied().unwrap_or(0),
     }
-    0
 }

@@ -5,3 +5,4 @@
 pub mod charger;
 pub mod group;
 pub mod psu;
+pub mod row;

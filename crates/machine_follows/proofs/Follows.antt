@@ -1,5 +1,6 @@
 -- The machine follows the event: opened, it stands for the event, and after each answer for the rest of it. The cases are those of
 -- the phases; what each step stands for is in Steps.antt.
+use Rattle.std.specs.Prelude.{Err, None, Ok, Option, Result, Some}
 use mathlib.Core.Path.{◌≡◌, refl, ◌∙◌}
 use mathlib.Core.Bool.{Bool, true, false, cond}
 use mathlib.Core.List.{[]}
@@ -8,14 +9,12 @@ use native.Mathlib.Omega.{arith}
 use borrow.Author.Tests.{lt-ltb}
 use Rattle.power_policy_interface.specs.Psu.{can_connect_provider_of}
 use Rattle.power_policy_interface.specs.declared.capability.DisconnectFlags.{DisconnectFlags}
-use Rattle.power_policy_interface.specs.declared.capability.OptionProviderPowerCapability.{OptionProviderPowerCapability}
+use Rattle.power_policy_interface.specs.declared.psu.Error.{Error}
 use Rattle.power_policy_interface.specs.declared.capability.ProviderPowerCapability.{ProviderPowerCapability}
-use Rattle.power_policy_interface.specs.declared.psu.Result.{Result}
 use Rattle.power_policy_interface.specs.declared.psu.event.EventData.{EventData}
 use Rattle.power_policy_interface.specs.declared.service.event.Event.{Event}
-use Rattle.interface_display.specs.Providers.{remove_of}
+use Rattle.interface_display.specs.Providers.{remove_of, Removed}
 use Rattle.interface_display.specs.declared.AvailableConsumer.{AvailableConsumer}
-use Rattle.interface_display.specs.declared.providers.Removed.{Removed}
 use Rattle.power_policy_service.specs.Provider.{total_of, total_with, power_state_of, grant_of}
 use Rattle.power_policy_service.specs.declared.provider.PowerState.{PowerState}
 use Rattle.abstract_policy.specs.State.{psu_of, with_power_state, with_providers}
@@ -42,11 +41,11 @@ nothing_told_lem = record { disconnected = refl; later = record { connected = re
 
 -- providers
 
-pub request_follows : (g : Registration) (m : Memory) (p : ℕ) (r : Records) (q : OptionProviderPowerCapability) →
+pub request_follows : (g : Registration) (m : Memory) (p : ℕ) (r : Records) (q : Option ProviderPowerCapability) →
     stands_for g (provide_for q g m p r) ≡ provide g p q (held_of m) r close
 unfolding provide
-request_follows g m p r OptionProviderPowerCapability.None = refl
-request_follows g m p r (OptionProviderPowerCapability.Some q) = go (can_connect_provider_of (psu_of r p))
+request_follows g m p r None = refl
+request_follows g m p r (Some q) = go (can_connect_provider_of (psu_of r p))
   where
     s : PowerState
     s = power_state_of g.config (total_with p q r.psus (min 16 g.ports))
@@ -54,10 +53,10 @@ request_follows g m p r (OptionProviderPowerCapability.Some q) = go (can_connect
     set_to : Memory
     set_to = remember (with_power_state s m.state) m.notices
 
-    go : (a : Result) → stands_for g (provide_if a set_to p (grant_of g.config s q))
+    go : (a : Result (Unit {0}) Error) → stands_for g (provide_if a set_to p (grant_of g.config s q))
         ≡ (ok a >> (psu (Order.ConnectProvider p (grant_of g.config s q)) >> post_provider_connected p (grant_of g.config s q))) (held_of set_to) r close
-    go Result.Ok = refl
-    go (Result.Err e) = refl
+    go (Ok tt) = refl
+    go (Err e) = refl
 
 -- an untracked port changes nothing
 pub removed_follows : (g : Registration) (s : InternalState) (p : ℕ) (r : Records) (d : Removed) (k : Unit {0} → Held → Records → Interaction) →
@@ -117,42 +116,42 @@ opened g s p EventData.Detached r = depart_follows g s p _ r
 -- answered, it stands for the rest
 
 abbrev AnswersAt : Registration → Phase → Order → Memory → Type 0
-AnswersAt g p o m = (a : Result) (r : Records) → stands_for g (answered_of g p o m a r) ≡ rest g p a (held_of m) r close
+AnswersAt g p o m = (a : Result (Unit {0}) Error) (r : Records) → stands_for g (answered_of g p o m a r) ≡ rest g p a (held_of m) r close
 
 follow : (i chargers : ℕ) → i < chargers → chargers ≤ 8 → following i ≡ suc i
 follow i chargers h le = rw (lt-ltb i 255 (omega arith))
 
 pub leaving_answered : (g : Registration) (i p : ℕ) (f : DisconnectFlags) (m : Memory) → g.chargers ≤ 8 → (i < g.chargers) × NotUpdated m.notices →
     AnswersAt g (Phase.Leaving i p f) (Order.Detach i) m
-leaving_answered g i p f m le h Result.Ok r =
+leaving_answered g i p f m le h (Ok tt) r =
     rw (follow i g.chargers h.0 le) (leave_from g m (g.chargers - suc i) (suc i) p f r (omega arith) h.1)
-leaving_answered g i p f m le h (Result.Err e) r = refl
+leaving_answered g i p f m le h (Err e) r = refl
 
 pub switching_answered : (g : Registration) (l : Leaver) (old : ℕ) (f : DisconnectFlags) (new : AvailableConsumer) (m : Memory) → g.chargers ≤ 8 →
     LeaverFits g.chargers l × NotUpdated m.notices → AnswersAt g (Phase.Switching l old f new) (switch_order l old) m
-switching_answered g Leaver.Psu old f new m le h Result.Ok r = switch_from g m g.chargers 0 old f new r (omega arith) h.1
-switching_answered g Leaver.Psu old f new m le h (Result.Err e) r = refl
-switching_answered g (Leaver.Charger i) old f new m le h Result.Ok r =
+switching_answered g Leaver.Psu old f new m le h (Ok tt) r = switch_from g m g.chargers 0 old f new r (omega arith) h.1
+switching_answered g Leaver.Psu old f new m le h (Err e) r = refl
+switching_answered g (Leaver.Charger i) old f new m le h (Ok tt) r =
     rw (follow i g.chargers h.0 le) (switch_from g m (g.chargers - suc i) (suc i) old f new r (omega arith) h.1)
-switching_answered g (Leaver.Charger i) old f new m le h (Result.Err e) r = refl
+switching_answered g (Leaver.Charger i) old f new m le h (Err e) r = refl
 
 pub connecting_answered : (g : Registration) (s : Stage) (new : AvailableConsumer) (m : Memory) → g.chargers ≤ 8 →
     StageFits g.chargers s × NotConnected m.notices → AnswersAt g (Phase.Connecting s new) (connect_order s new) m
 unfolding post_consumer_connected
-connecting_answered g Stage.Psu new m le h Result.Ok r = refl
-connecting_answered g Stage.Psu new m le h (Result.Err e) r = refl
-connecting_answered g Stage.Settling new m le h Result.Ok r = charge_from g m g.chargers 0 new r (omega arith) h.1
-connecting_answered g Stage.Settling new m le h (Result.Err e) r = charge_from g m g.chargers 0 new r (omega arith) h.1
-connecting_answered g (Stage.Readying i) new m le h Result.Ok r = refl
-connecting_answered g (Stage.Readying i) new m le h (Result.Err e) r = refl
-connecting_answered g (Stage.Initializing i) new m le h Result.Ok r = refl
-connecting_answered g (Stage.Initializing i) new m le h (Result.Err e) r = refl
-connecting_answered g (Stage.Attaching i) new m le h Result.Ok r =
+connecting_answered g Stage.Psu new m le h (Ok tt) r = refl
+connecting_answered g Stage.Psu new m le h (Err e) r = refl
+connecting_answered g Stage.Settling new m le h (Ok tt) r = charge_from g m g.chargers 0 new r (omega arith) h.1
+connecting_answered g Stage.Settling new m le h (Err e) r = charge_from g m g.chargers 0 new r (omega arith) h.1
+connecting_answered g (Stage.Readying i) new m le h (Ok tt) r = refl
+connecting_answered g (Stage.Readying i) new m le h (Err e) r = refl
+connecting_answered g (Stage.Initializing i) new m le h (Ok tt) r = refl
+connecting_answered g (Stage.Initializing i) new m le h (Err e) r = refl
+connecting_answered g (Stage.Attaching i) new m le h (Ok tt) r =
     rw (follow i g.chargers h.0 le) (charge_from g m (g.chargers - suc i) (suc i) new r (omega arith) h.1)
-connecting_answered g (Stage.Attaching i) new m le h (Result.Err e) r = refl
+connecting_answered g (Stage.Attaching i) new m le h (Err e) r = refl
 
 pub providing_answered : (g : Registration) (p : ℕ) (c : ProviderPowerCapability) (m : Memory) → m.notices ≡ no_notices →
     AnswersAt g (Phase.Providing p c) (Order.ConnectProvider p c) m
 unfolding post_provider_connected
-providing_answered g p c m h Result.Ok r = rw h
-providing_answered g p c m h (Result.Err e) r = refl
+providing_answered g p c m h (Ok tt) r = rw h
+providing_answered g p c m h (Err e) r = refl

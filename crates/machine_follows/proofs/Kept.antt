@@ -1,5 +1,6 @@
 -- What an open event has not told yet stays untold until its step, and its charger is a registered one: the next charger is below the
 -- count wherever one is asked.
+use Rattle.std.specs.Prelude.{Err, None, Ok, Option, Result, Some}
 use mathlib.Core.Path.{◌≡◌, refl}
 use mathlib.Core.Bool.{Bool, true, false, cond}
 use Prim.Native.Nat.{ℕ, ◌-◌, ◌<◌}
@@ -7,13 +8,11 @@ use lib.Dec.{ltb}
 use borrow.Author.Tests.{ltb-true}
 use Rattle.power_policy_interface.specs.Psu.{can_connect_consumer_of, can_connect_provider_of}
 use Rattle.power_policy_interface.specs.declared.capability.DisconnectFlags.{DisconnectFlags}
-use Rattle.power_policy_interface.specs.declared.capability.OptionProviderPowerCapability.{OptionProviderPowerCapability}
+use Rattle.power_policy_interface.specs.declared.psu.Error.{Error}
 use Rattle.power_policy_interface.specs.declared.capability.ProviderPowerCapability.{ProviderPowerCapability}
-use Rattle.power_policy_interface.specs.declared.psu.Result.{Result}
 use Rattle.power_policy_interface.specs.declared.psu.event.EventData.{EventData}
 use Rattle.interface_display.specs.Providers.{remove_of}
 use Rattle.interface_display.specs.declared.AvailableConsumer.{AvailableConsumer}
-use Rattle.interface_display.specs.declared.OptionAvailableConsumer.{OptionAvailableConsumer}
 use Rattle.abstract_policy.specs.State.{psu_of, charger_unpowered}
 use Rattle.abstract_policy.specs.Interaction.{is_connected_consumer, same_available, find_best_consumer}
 use Rattle.abstract_policy.specs.declared.state.InternalState.{InternalState}
@@ -33,9 +32,9 @@ use Rattle.machine_follows.proofs.Follows.{nothing_told_lem, removed_tells}
 abbrev pub FitsTurn : Registration → Turn → Type 0
 FitsTurn g t = Fits g.chargers t.phase t.memory.notices
 
-connect_fits : (g : Registration) (m : Memory) (new : AvailableConsumer) (a : Result) → NotConnected m.notices → FitsTurn g (connect_if a m new)
-connect_fits g m new Result.Ok h = (tt, h)
-connect_fits g m new (Result.Err e) h = tt
+connect_fits : (g : Registration) (m : Memory) (new : AvailableConsumer) (a : Result (Unit {0}) Error) → NotConnected m.notices → FitsTurn g (connect_if a m new)
+connect_fits g m new (Ok tt) h = (tt, h)
+connect_fits g m new (Err e) h = tt
 
 switch_fits : (g : Registration) (m : Memory) (i old : ℕ) (f : DisconnectFlags) (new : AvailableConsumer) (r : Records) → NotUpdated m.notices → FitsTurn g (switch_of g m i old f new r)
 switch_fits g m i old f new r h = go (ltb j g.chargers) refl
@@ -80,28 +79,28 @@ same_fits : (g : Registration) (m : Memory) (old : ℕ) (f : DisconnectFlags) (n
 same_fits g m old f new r true h = tt
 same_fits g m old f new r false h = disconnect_fits g m old f new r (is_connected_consumer (psu_of r old).psu_state) h
 
-from_fits : (g : Registration) (m : Memory) (current : OptionAvailableConsumer) (new : AvailableConsumer) (f : DisconnectFlags) (r : Records) → NotUpdated m.notices → FitsTurn g (connect_from current g m new f r)
-from_fits g m OptionAvailableConsumer.None new f r h = connect_fits g m new (can_connect_consumer_of (psu_of r new.psu)) h.later
-from_fits g m (OptionAvailableConsumer.Some c) new f r h = same_fits g m c.psu f new r (same_available c new) h
+from_fits : (g : Registration) (m : Memory) (current : Option AvailableConsumer) (new : AvailableConsumer) (f : DisconnectFlags) (r : Records) → NotUpdated m.notices → FitsTurn g (connect_from current g m new f r)
+from_fits g m None new f r h = connect_fits g m new (can_connect_consumer_of (psu_of r new.psu)) h.later
+from_fits g m (Some c) new f r h = same_fits g m c.psu f new r (same_available c new) h
 
-none_fits : (g : Registration) (m : Memory) (current : OptionAvailableConsumer) (f : DisconnectFlags) (r : Records) → NotUpdated m.notices → FitsTurn g (update_none current g m f r)
-none_fits g m OptionAvailableConsumer.None f r h = tt
-none_fits g m (OptionAvailableConsumer.Some c) f r h = leave_fits g m 0 c.psu f r h
+none_fits : (g : Registration) (m : Memory) (current : Option AvailableConsumer) (f : DisconnectFlags) (r : Records) → NotUpdated m.notices → FitsTurn g (update_none current g m f r)
+none_fits g m None f r h = tt
+none_fits g m (Some c) f r h = leave_fits g m 0 c.psu f r h
 
-to_fits : (g : Registration) (m : Memory) (best : OptionAvailableConsumer) (f : DisconnectFlags) (r : Records) → NotUpdated m.notices → FitsTurn g (update_to best g m f r)
-to_fits g m OptionAvailableConsumer.None f r h = none_fits g m m.state.current_consumer_state f r h
-to_fits g m (OptionAvailableConsumer.Some new) f r h = from_fits g m m.state.current_consumer_state new f r h
+to_fits : (g : Registration) (m : Memory) (best : Option AvailableConsumer) (f : DisconnectFlags) (r : Records) → NotUpdated m.notices → FitsTurn g (update_to best g m f r)
+to_fits g m None f r h = none_fits g m m.state.current_consumer_state f r h
+to_fits g m (Some new) f r h = from_fits g m m.state.current_consumer_state new f r h
 
 update_fits : (g : Registration) (m : Memory) (f : DisconnectFlags) (r : Records) → NotUpdated m.notices → FitsTurn g (update_of g m f r)
 update_fits g m f r h = to_fits g m (find_best_consumer g m.state r) f r h
 
-if_fits : (g : Registration) (m : Memory) (a : Result) (p : ℕ) (c : ProviderPowerCapability) → m.notices ≡ no_notices → FitsTurn g (provide_if a m p c)
-if_fits g m Result.Ok p c h = h
-if_fits g m (Result.Err e) p c h = tt
+if_fits : (g : Registration) (m : Memory) (a : Result (Unit {0}) Error) (p : ℕ) (c : ProviderPowerCapability) → m.notices ≡ no_notices → FitsTurn g (provide_if a m p c)
+if_fits g m (Ok tt) p c h = h
+if_fits g m (Err e) p c h = tt
 
-provide_fits : (g : Registration) (s : InternalState) (p : ℕ) (r : Records) (q : OptionProviderPowerCapability) → FitsTurn g (provide_for q g (remember s no_notices) p r)
-provide_fits g s p r OptionProviderPowerCapability.None = tt
-provide_fits g s p r (OptionProviderPowerCapability.Some q) = if_fits g _ (can_connect_provider_of (psu_of r p)) p _ refl
+provide_fits : (g : Registration) (s : InternalState) (p : ℕ) (r : Records) (q : Option ProviderPowerCapability) → FitsTurn g (provide_for q g (remember s no_notices) p r)
+provide_fits g s p r None = tt
+provide_fits g s p r (Some q) = if_fits g _ (can_connect_provider_of (psu_of r p)) p _ refl
 
 pub opened_fits : (g : Registration) (s : InternalState) (p : ℕ) (e : EventData) (r : Records) → FitsTurn g (process_of g (remember s no_notices) p e r)
 opened_fits g s p EventData.Attached r = tt
@@ -126,6 +125,6 @@ after_fits g (Phase.Switching l old f new) m r h = switch_fits g m (next_from l)
 after_fits g (Phase.Connecting s new) m r h = after_stage_fits g m s new r h.0 h.1
 after_fits g (Phase.Providing p c) m r h = tt
 
-pub answered_fits : (g : Registration) (p : Phase) (m : Memory) (a : Result) (r : Records) → Fits g.chargers p m.notices → FitsTurn g (answered_to a g p m r)
-answered_fits g p m Result.Ok r h = after_fits g p m r h
-answered_fits g p m (Result.Err e) r h = tt
+pub answered_fits : (g : Registration) (p : Phase) (m : Memory) (a : Result (Unit {0}) Error) (r : Records) → Fits g.chargers p m.notices → FitsTurn g (answered_to a g p m r)
+answered_fits g p m (Ok tt) r h = after_fits g p m r h
+answered_fits g p m (Err e) r h = tt

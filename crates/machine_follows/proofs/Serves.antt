@@ -1,5 +1,6 @@
 -- The service follows the event for every list of answers, refused ones included: a refused answer changes nothing on either side, an
 -- accepted one leads both to the rest (Follows.antt), and the bound on the orders keeps the count from its limit.
+use Rattle.std.specs.Prelude.{None, Result, Some}
 use mathlib.Core.Path.{◌≡◌, refl, sym, ap, ◌∙◌, subst}
 use mathlib.Core.Bool.{Bool, true, false, cond, not, ◌&&◌}
 use mathlib.Core.List.{List, [], ◌∷◌}
@@ -8,7 +9,7 @@ use native.Mathlib.Omega.{arith}
 use lib.Dec.{eqb}
 use lib.ListN.{length}
 use borrow.Author.Tests.{lt-ltb, eqb-false}
-use Rattle.power_policy_interface.specs.declared.psu.Result.{Result}
+use Rattle.power_policy_interface.specs.declared.psu.Error.{Error}
 use Rattle.power_policy_interface.specs.declared.service.event.Event.{Event}
 use Rattle.abstract_policy.specs.Refusals.{not_registered, unknown_event, numbers_used, unknown_answer, no_answer}
 use Rattle.abstract_policy.specs.Given.{result_of, event_of}
@@ -19,7 +20,6 @@ use Rattle.abstract_policy.specs.Ends.{AtMost}
 use Rattle.abstract_policy.specs.Returns.{brings}
 use Rattle.abstract_policy.specs.declared.state.Records.{Records}
 use Rattle.abstract_policy.specs.declared.state.Registration.{Registration}
-use Rattle.abstract_policy.specs.declared.order.OptionOrder.{OptionOrder}
 use Rattle.abstract_policy.specs.declared.order.Order.{Order}
 use Rattle.abstract_policy.proofs.Bound.{event_bound, orders_bound}
 use Rattle.machine_state.specs.Memory.{no_notices}
@@ -32,7 +32,7 @@ use Rattle.machine_process.specs.Process.{answered_of, process_of}
 use Rattle.machine_service.specs.Refusals.{is_open}
 use Rattle.machine_service.specs.Service.{refused, increment, moved, answer_of, opened_of, open_of}
 use Rattle.machine_service.specs.declared.Service.{Service}
-use Rattle.machine_service.specs.declared.Stepped.{Stepped}
+use Rattle.machine_service.specs.Service.{Stepped}
 use Rattle.machine_follows.specs.Machine.{held_of, rest, stands_at, stands_for, Fits}
 use Rattle.machine_follows.specs.Served.{service_after, numbered, Stands, Opens, Registered, event_at}
 use Rattle.machine_follows.proofs.Follows.{opened, leaving_answered, switching_answered, connecting_answered, providing_answered}
@@ -58,12 +58,12 @@ turned_back true x y = refl
 turned_back false x y = refl
 
 -- closed: 24 or 26, and nothing changes
-pub closed_answer : (g : Registration) (number given : ℕ) (a : Result) (m : Memory) (n : ℕ) (r : Records) →
+pub closed_answer : (g : Registration) (number given : ℕ) (a : Result (Unit {0}) Error) (m : Memory) (n : ℕ) (r : Records) →
     (answer_of (service g number given (Phase.Closed a) m) n r).service ≡ service g number given (Phase.Closed a) m
-closed_answer g number given a m n r = ap (λ z. z.service) (turned_back (unknown_answer OptionOrder.None n) _ _)
+closed_answer g number given a m n r = ap (λ z. z.service) (turned_back (unknown_answer None n) _ _)
 
 -- open: 24, and nothing changes, or the turn that the answer leads to
-pub open_answer : (g : Registration) (number given : ℕ) (p : Phase) (m : Memory) (o : Order) (n : ℕ) (r : Records) → order_of p ≡ OptionOrder.Some o →
+pub open_answer : (g : Registration) (number given : ℕ) (p : Phase) (m : Memory) (o : Order) (n : ℕ) (r : Records) → order_of p ≡ Some o →
     (answer_of (service g number given p m) n r).service
     ≡ (cond (no_answer o n) (refused 24 (service g number given p m)) (moved g number given (answered_of g p o m (result_of n) r))).service
 open_answer g number given p m o n r e = rw e (go (no_answer o n))
@@ -108,8 +108,8 @@ one_more s g number before n i h =
     let e : before + 1 + n ≡ before + suc n = omega arith in
     subst (λ z. Stands s g number z i) e h
 
-open_follows : (g : Registration) (number before : ℕ) (p : Phase) (m : Memory) (o : Order) (k : Result → Records → Interaction) (n : ℕ) (r : Records) (l : Answers) →
-    order_of p ≡ OptionOrder.Some o →
+open_follows : (g : Registration) (number before : ℕ) (p : Phase) (m : Memory) (o : Order) (k : Result (Unit {0}) Error → Records → Interaction) (n : ℕ) (r : Records) (l : Answers) →
+    order_of p ≡ Some o →
     StandsAfter (service g number (before + 1) p m) g number before (ask o k) l →
     StandsAfter (moved g number (before + 1) (answered_of g p o m (result_of n) r)).service g number (before + 1) (k (result_of n) r) l →
     StandsAfter (service g number (before + 1) p m) g number before (ask o k) ((n, r) ∷ l)
@@ -126,7 +126,7 @@ open_follows g number before p m o k n r l e again next = rw (open_answer g numb
 
 -- an answer at an open phase, where both ways of going on are known to follow
 answer_follows : (g : Registration) (number before : ℕ) (p : Phase) (m : Memory) (o : Order) (x : ℕ × Records) (l : Answers) →
-    number < 4294967295 → before < 35 → order_of p ≡ OptionOrder.Some o →
+    number < 4294967295 → before < 35 → order_of p ≡ Some o →
     (e : stands_for g (answered_of g p o m (result_of x.0) x.1) ≡ rest g p (result_of x.0) (held_of m) x.1 close) →
     StandsAfter (service g number (before + 1) p m) g number before (ask o (λ a r. rest g p a (held_of m) r close)) l →
     (let t = answered_of g p o m (result_of x.0) x.1 in
@@ -277,7 +277,7 @@ few g (Phase.Switching l old f new) m = omega arith
 few g (Phase.Connecting s new) m = omega arith
 few g (Phase.Providing p c) m = omega arith
 
-pub notices_bound : (s : Service) (kind device detail : ℕ) (r : Records) (l : Answers) (a : Result) (h : Held) → Registered s → Opens s kind device detail →
+pub notices_bound : (s : Service) (kind device detail : ℕ) (r : Records) (l : Answers) (a : Result (Unit {0}) Error) (h : Held) → Registered s → Opens s kind device detail →
     fed_by (event_at s kind device detail r) l ≡ done a h → length h.notices ≤ 4
 notices_bound s kind device detail r l a h reg o e =
     let at = service_after (open_of s kind device detail r).service l in

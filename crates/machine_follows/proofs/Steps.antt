@@ -1,5 +1,6 @@
 -- Each step of the update stands for the part of the event that it takes: passing over unpowered chargers to the next powered one is the
 -- loop over all of them, and the rest is the same case distinction on both sides.
+use Rattle.std.specs.Prelude.{Err, None, Ok, Option, Result, Some}
 use mathlib.Core.Path.{◌≡◌, refl, sym, ap, ◌∙◌}
 use mathlib.Core.Bool.{Bool, true, false, cond}
 use Prim.Native.Nat.{ℕ, zero, suc, ◌+◌, ◌-◌}
@@ -9,11 +10,10 @@ use borrow.Author.Tests.{lt-ltb, le-ltb}
 use Rattle.power_policy_interface.specs.Psu.{can_connect_consumer_of}
 use Rattle.power_policy_interface.specs.Service.{same_unconstrained}
 use Rattle.power_policy_interface.specs.declared.capability.DisconnectFlags.{DisconnectFlags}
-use Rattle.power_policy_interface.specs.declared.psu.Result.{Result}
+use Rattle.power_policy_interface.specs.declared.psu.Error.{Error}
 use Rattle.power_policy_interface.specs.declared.service.UnconstrainedState.{UnconstrainedState}
 use Rattle.power_policy_interface.specs.declared.service.event.Event.{Event}
 use Rattle.interface_display.specs.declared.AvailableConsumer.{AvailableConsumer}
-use Rattle.interface_display.specs.declared.OptionAvailableConsumer.{OptionAvailableConsumer}
 use Rattle.abstract_policy.specs.State.{psu_of, charger_unpowered, with_consumer, with_unconstrained}
 use Rattle.abstract_policy.specs.Interaction.{unconstrained_of, reason_of, is_connected_consumer, same_available, find_best_consumer, update_unconstrained_state, attach_charger, post_consumer_connected, detach_charger, disconnect_chargers, disconnect_current, connect_consumer, connect_new_consumer, connect_best, update_current_consumer, close}
 use Rattle.abstract_policy.specs.Action.{Held, Interaction, done, ask, Action, ◌>>◌, set, notify, ok, charger_ok, charger, psu, when, unless, each}
@@ -22,7 +22,6 @@ use Rattle.abstract_policy.specs.declared.state.Registration.{Registration}
 use Rattle.abstract_policy.specs.declared.order.Order.{Order}
 use Rattle.machine_state.specs.Memory.{tell_unconstrained, next_powered}
 use Rattle.machine_state.specs.declared.memory.Memory.{Memory}
-use Rattle.machine_state.specs.declared.memory.UnconstrainedNotice.{UnconstrainedNotice}
 use Rattle.machine_state.specs.declared.phase.Leaver.{Leaver}
 use Rattle.machine_state.specs.declared.phase.Phase.{Phase}
 use Rattle.machine_state.specs.declared.phase.Turn.{Turn}
@@ -40,13 +39,13 @@ by_test g false x y i j p q = q
 
 -- the last step
 
-finish_told : (b : Bool) (u : UnconstrainedState) (m : Memory) (r : Records) → m.notices.unconstrained ≡ UnconstrainedNotice.None →
-    done Result.Ok (held_of (cond b m (record { state = with_unconstrained u m.state; notices = tell_unconstrained u m.notices })))
+finish_told : (b : Bool) (u : UnconstrainedState) (m : Memory) (r : Records) → m.notices.unconstrained ≡ None →
+    done (Ok tt) (held_of (cond b m (record { state = with_unconstrained u m.state; notices = tell_unconstrained u m.notices })))
     ≡ unless b (set (with_unconstrained u) >> notify (Event.Unconstrained u)) (held_of m) r close
 finish_told true u m r e = refl
-finish_told false u m r e = ap (λ l. done Result.Ok (record { state = with_unconstrained u m.state; notices = l })) (told_unconstrained u m.notices e)
+finish_told false u m r e = ap (λ l. done (Ok tt) (record { state = with_unconstrained u m.state; notices = l })) (told_unconstrained u m.notices e)
 
-pub finish_update : (g : Registration) (m : Memory) (r : Records) → m.notices.unconstrained ≡ UnconstrainedNotice.None →
+pub finish_update : (g : Registration) (m : Memory) (r : Records) → m.notices.unconstrained ≡ None →
     stands_for g (finish_update_of g m r) ≡ update_unconstrained_state g (held_of m) r close
 unfolding update_unconstrained_state
 finish_update g m r e =
@@ -82,9 +81,9 @@ pub connect_psu : (g : Registration) (m : Memory) (new : AvailableConsumer) (r :
 unfolding connect_consumer
 connect_psu g m new r = go (can_connect_consumer_of (psu_of r new.psu))
   where
-    go : (a : Result) → stands_for g (connect_if a m new) ≡ (ok a >> (psu (Order.ConnectConsumer new.psu new.consumer_power_capability) >> (post_consumer_connected g new >> update_unconstrained_state g))) (held_of m) r close
-    go Result.Ok = refl
-    go (Result.Err e) = refl
+    go : (a : Result (Unit {0}) Error) → stands_for g (connect_if a m new) ≡ (ok a >> (psu (Order.ConnectConsumer new.psu new.consumer_power_capability) >> (post_consumer_connected g new >> update_unconstrained_state g))) (held_of m) r close
+    go (Ok tt) = refl
+    go (Err e) = refl
 
 told_switch_lem : (g : Registration) (m : Memory) (old : ℕ) (f : DisconnectFlags) (new : AvailableConsumer) (r : Records) → NotUpdated m.notices →
     stands_for g (connect_psu_of (told_switch m old f new) new r)
@@ -120,11 +119,11 @@ disconnect_current_lem g m current new f r h =
 abbrev then_unconstrained : Registration → Action (Unit {0}) → Memory → Records → Interaction
 then_unconstrained g a m r = (a >> update_unconstrained_state g) (held_of m) r close
 
-pub connect_from_lem : (g : Registration) (m : Memory) (current : OptionAvailableConsumer) (new : AvailableConsumer) (f : DisconnectFlags) (r : Records) → NotUpdated m.notices →
+pub connect_from_lem : (g : Registration) (m : Memory) (current : Option AvailableConsumer) (new : AvailableConsumer) (f : DisconnectFlags) (r : Records) → NotUpdated m.notices →
     stands_for g (connect_from current g m new f r) ≡ then_unconstrained g (connect_new_consumer g current new f) m r
 unfolding connect_new_consumer
-connect_from_lem g m OptionAvailableConsumer.None new f r h = connect_psu g m new r
-connect_from_lem g m (OptionAvailableConsumer.Some c) new f r h = go (same_available c new)
+connect_from_lem g m None new f r h = connect_psu g m new r
+connect_from_lem g m (Some c) new f r h = go (same_available c new)
   where
     go : (b : Bool) → stands_for g (cond b (finish_update_of g m r) (disconnect_of g m c.psu f new r))
         ≡ then_unconstrained g (unless b (disconnect_current g c new f >> connect_consumer g new)) m r
@@ -135,10 +134,10 @@ connect_from_lem g m (OptionAvailableConsumer.Some c) new f r h = go (same_avail
 
 told_left : (g : Registration) (m : Memory) (p : ℕ) (f : DisconnectFlags) (r : Records) → NotUpdated m.notices →
     stands_for g (finish_update_of g (left_of m p f) r)
-    ≡ (notify (Event.ConsumerDisconnected p f) >> (set (with_consumer OptionAvailableConsumer.None) >> update_unconstrained_state g)) (held_of m) r close
+    ≡ (notify (Event.ConsumerDisconnected p f) >> (set (with_consumer None) >> update_unconstrained_state g)) (held_of m) r close
 told_left g m p f r h =
     finish_update g (left_of m p f) r h.later.unconstrained
-    ∙ ap (λ l. update_unconstrained_state g (record { state = with_consumer OptionAvailableConsumer.None m.state; notices = l }) r close) (told_disconnected p f m.notices h)
+    ∙ ap (λ l. update_unconstrained_state g (record { state = with_consumer None m.state; notices = l }) r close) (told_disconnected p f m.notices h)
 
 pub leave_from : (g : Registration) (m : Memory) (n i p : ℕ) (f : DisconnectFlags) (r : Records) → i + n ≡ g.chargers → NotUpdated m.notices →
     stands_for g (leave_of g m i p f r) ≡ leaving g n i p f (held_of m) r close
@@ -146,23 +145,23 @@ leave_from g m n i p f r e h =
     let c : g.chargers - i ≡ n = omega arith in
     rw c
     (by_test g (ltb (next_powered r n i) g.chargers) _ _ _ _ refl (told_left g m p f r h)
-    ∙ sym (sweep n i g.chargers (held_of m) r (λ u h' r'. (notify (Event.ConsumerDisconnected p f) >> (set (with_consumer OptionAvailableConsumer.None) >> update_unconstrained_state g)) h' r' close) e))
+    ∙ sym (sweep n i g.chargers (held_of m) r (λ u h' r'. (notify (Event.ConsumerDisconnected p f) >> (set (with_consumer None) >> update_unconstrained_state g)) h' r' close) e))
 
 -- the update
 
-update_none_lem : (g : Registration) (m : Memory) (f : DisconnectFlags) (r : Records) (current : OptionAvailableConsumer) → m.state.current_consumer_state ≡ current → NotUpdated m.notices →
-    stands_for g (update_none current g m f r) ≡ then_unconstrained g (connect_best g OptionAvailableConsumer.None current f) m r
+update_none_lem : (g : Registration) (m : Memory) (f : DisconnectFlags) (r : Records) (current : Option AvailableConsumer) → m.state.current_consumer_state ≡ current → NotUpdated m.notices →
+    stands_for g (update_none current g m f r) ≡ then_unconstrained g (connect_best g None current f) m r
 unfolding connect_best disconnect_chargers
-update_none_lem g m f r OptionAvailableConsumer.None e h =
+update_none_lem g m f r None e h =
     finish_update g m r h.later.unconstrained
     ∙ ap (λ c. update_unconstrained_state g (record { state = with_consumer c m.state; notices = listed m.notices }) r close) e
-update_none_lem g m f r (OptionAvailableConsumer.Some c) e h = leave_from g m g.chargers 0 c.psu f r (omega arith) h
+update_none_lem g m f r (Some c) e h = leave_from g m g.chargers 0 c.psu f r (omega arith) h
 
-update_to_lem : (g : Registration) (m : Memory) (f : DisconnectFlags) (r : Records) (best : OptionAvailableConsumer) → NotUpdated m.notices →
+update_to_lem : (g : Registration) (m : Memory) (f : DisconnectFlags) (r : Records) (best : Option AvailableConsumer) → NotUpdated m.notices →
     stands_for g (update_to best g m f r) ≡ then_unconstrained g (connect_best g best m.state.current_consumer_state f) m r
 unfolding connect_best
-update_to_lem g m f r OptionAvailableConsumer.None h = update_none_lem g m f r m.state.current_consumer_state refl h
-update_to_lem g m f r (OptionAvailableConsumer.Some new) h = connect_from_lem g m m.state.current_consumer_state new f r h
+update_to_lem g m f r None h = update_none_lem g m f r m.state.current_consumer_state refl h
+update_to_lem g m f r (Some new) h = connect_from_lem g m m.state.current_consumer_state new f r h
 
 pub update_follows : (g : Registration) (m : Memory) (f : DisconnectFlags) (r : Records) → NotUpdated m.notices →
     stands_for g (update_of g m f r) ≡ update_current_consumer g f (held_of m) r close

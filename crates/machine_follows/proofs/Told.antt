@@ -1,4 +1,5 @@
 -- A notice told in its place is the last of the list, as long as no later one has been told: appending is associative.
+use Rattle.std.specs.Prelude.{None, Option, Some}
 use mathlib.Core.Path.{◌≡◌, refl, ap}
 use mathlib.Core.List.{List, [], ◌∷◌, ◌++◌}
 use Prim.Native.Nat.{ℕ, ◌≤◌}
@@ -8,12 +9,10 @@ use Rattle.power_policy_interface.specs.declared.capability.DisconnectFlags.{Dis
 use Rattle.power_policy_interface.specs.declared.service.UnconstrainedState.{UnconstrainedState}
 use Rattle.power_policy_interface.specs.declared.service.event.Event.{Event}
 use Rattle.interface_display.specs.declared.AvailableConsumer.{AvailableConsumer}
-use Rattle.interface_display.specs.declared.OptionAvailableConsumer.{OptionAvailableConsumer}
 use Rattle.machine_state.specs.Memory.{tell_disconnected, tell_connected, tell_unconstrained}
-use Rattle.machine_state.specs.declared.memory.DisconnectedNotice.{DisconnectedNotice}
+use Rattle.machine_state.specs.declared.memory.Disconnected.{Disconnected}
 use Rattle.machine_state.specs.declared.memory.Notices.{Notices}
 use Rattle.machine_state.specs.declared.memory.ProviderNotice.{ProviderNotice}
-use Rattle.machine_state.specs.declared.memory.UnconstrainedNotice.{UnconstrainedNotice}
 use Rattle.machine_follows.specs.Machine.{of_provider, of_disconnected, of_connected, of_unconstrained, listed, NotConnected, NotUpdated}
 
 appended : (a l e : List Event) → a ++ (l ++ e) ≡ (a ++ l) ++ e
@@ -30,7 +29,7 @@ told_connected_lem c n h =
     rw (h.connected, h.unconstrained, appended (of_disconnected n.disconnected) [] (Event.ConsumerConnected c.psu c.consumer_power_capability ∷ []))
     (appended (of_provider n.provider) (of_disconnected n.disconnected ++ []) (Event.ConsumerConnected c.psu c.consumer_power_capability ∷ []))
 
-pub told_unconstrained : (u : UnconstrainedState) (n : Notices) → n.unconstrained ≡ UnconstrainedNotice.None → listed (tell_unconstrained u n) ≡ listed n ++ (Event.Unconstrained u ∷ [])
+pub told_unconstrained : (u : UnconstrainedState) (n : Notices) → n.unconstrained ≡ None → listed (tell_unconstrained u n) ≡ listed n ++ (Event.Unconstrained u ∷ [])
 told_unconstrained u n h =
     let e = Event.Unconstrained u ∷ [] in
     let c = of_connected n.connected in
@@ -44,17 +43,17 @@ provider_one ProviderNotice.None = omega arith
 provider_one (ProviderNotice.Disconnected p) = omega arith
 provider_one (ProviderNotice.Connected p c) = omega arith
 
-disconnected_one : (d : DisconnectedNotice) → length (of_disconnected d) ≤ 1
-disconnected_one DisconnectedNotice.None = omega arith
-disconnected_one (DisconnectedNotice.Some p f) = omega arith
+disconnected_one : (d : Option Disconnected) → length (of_disconnected d) ≤ 1
+disconnected_one None = omega arith
+disconnected_one (Some d) = omega arith
 
-connected_one : (c : OptionAvailableConsumer) → length (of_connected c) ≤ 1
-connected_one OptionAvailableConsumer.None = omega arith
-connected_one (OptionAvailableConsumer.Some c) = omega arith
+connected_one : (c : Option AvailableConsumer) → length (of_connected c) ≤ 1
+connected_one None = omega arith
+connected_one (Some c) = omega arith
 
-unconstrained_one : (u : UnconstrainedNotice) → length (of_unconstrained u) ≤ 1
-unconstrained_one UnconstrainedNotice.None = omega arith
-unconstrained_one (UnconstrainedNotice.Some u) = omega arith
+unconstrained_one : (u : Option UnconstrainedState) → length (of_unconstrained u) ≤ 1
+unconstrained_one None = omega arith
+unconstrained_one (Some u) = omega arith
 
 pub at_most_four : (n : Notices) → length (listed n) ≤ 4
 at_most_four n =

@@ -1,10 +1,10 @@
 -- What the machine's memory and phases stand for: what is held, and what is left of the event.
-use Rattle.std.specs.Prelude.{ℕ, suc, ◌-◌, ◌<◌, List, [], ◌∷◌, ◌++◌, ◌≡◌}
+use Rattle.std.specs.Prelude.{ℕ, suc, ◌-◌, ◌<◌, List, [], ◌∷◌, ◌++◌, ◌≡◌, None, Option, Result, Some}
 use Rattle.power_policy_interface.specs.declared.capability.DisconnectFlags.{DisconnectFlags}
-use Rattle.power_policy_interface.specs.declared.psu.Result.{Result}
+use Rattle.power_policy_interface.specs.declared.psu.Error.{Error}
+use Rattle.power_policy_interface.specs.declared.service.UnconstrainedState.{UnconstrainedState}
 use Rattle.power_policy_interface.specs.declared.service.event.Event.{Event}
 use Rattle.interface_display.specs.declared.AvailableConsumer.{AvailableConsumer}
-use Rattle.interface_display.specs.declared.OptionAvailableConsumer.{OptionAvailableConsumer}
 use Rattle.abstract_policy.specs.State.{with_consumer}
 use Rattle.abstract_policy.specs.Interaction.{reason_of, update_unconstrained_state, attach_charger, post_consumer_connected, detach_charger, connect_consumer, post_provider_connected, close}
 use Rattle.abstract_policy.specs.Action.{Held, Interaction, done, ask, Action, ◌>>◌, skip, set, notify, ok, charger_ok, charger, each}
@@ -12,11 +12,10 @@ use Rattle.abstract_policy.specs.declared.state.Registration.{Registration}
 use Rattle.abstract_policy.specs.declared.order.Order.{Order}
 use Rattle.machine_state.specs.Memory.{no_notices}
 use Rattle.machine_state.specs.Phase.{switch_order, connect_order}
-use Rattle.machine_state.specs.declared.memory.DisconnectedNotice.{DisconnectedNotice}
+use Rattle.machine_state.specs.declared.memory.Disconnected.{Disconnected}
 use Rattle.machine_state.specs.declared.memory.Memory.{Memory}
 use Rattle.machine_state.specs.declared.memory.Notices.{Notices}
 use Rattle.machine_state.specs.declared.memory.ProviderNotice.{ProviderNotice}
-use Rattle.machine_state.specs.declared.memory.UnconstrainedNotice.{UnconstrainedNotice}
 use Rattle.machine_state.specs.declared.phase.Leaver.{Leaver}
 use Rattle.machine_state.specs.declared.phase.Phase.{Phase}
 use Rattle.machine_state.specs.declared.phase.Stage.{Stage}
@@ -29,17 +28,17 @@ of_provider ProviderNotice.None = []
 of_provider (ProviderNotice.Disconnected p) = Event.ProviderDisconnected p ∷ []
 of_provider (ProviderNotice.Connected p c) = Event.ProviderConnected p c ∷ []
 
-abbrev pub of_disconnected : DisconnectedNotice → List Event
-of_disconnected DisconnectedNotice.None = []
-of_disconnected (DisconnectedNotice.Some p f) = Event.ConsumerDisconnected p f ∷ []
+abbrev pub of_disconnected : Option Disconnected → List Event
+of_disconnected None = []
+of_disconnected (Some d) = Event.ConsumerDisconnected d.port d.flags ∷ []
 
-abbrev pub of_connected : OptionAvailableConsumer → List Event
-of_connected OptionAvailableConsumer.None = []
-of_connected (OptionAvailableConsumer.Some c) = Event.ConsumerConnected c.psu c.consumer_power_capability ∷ []
+abbrev pub of_connected : Option AvailableConsumer → List Event
+of_connected None = []
+of_connected (Some c) = Event.ConsumerConnected c.psu c.consumer_power_capability ∷ []
 
-abbrev pub of_unconstrained : UnconstrainedNotice → List Event
-of_unconstrained UnconstrainedNotice.None = []
-of_unconstrained (UnconstrainedNotice.Some u) = Event.Unconstrained u ∷ []
+abbrev pub of_unconstrained : Option UnconstrainedState → List Event
+of_unconstrained None = []
+of_unconstrained (Some u) = Event.Unconstrained u ∷ []
 
 abbrev pub listed : Notices → List Event
 listed n =
@@ -69,10 +68,10 @@ abbrev pub leaving : Registration → ℕ → ℕ → ℕ → DisconnectFlags �
 leaving g n i p f = do
   each n i detach_charger
   notify (Event.ConsumerDisconnected p f)
-  set (with_consumer OptionAvailableConsumer.None)
+  set (with_consumer None)
   update_unconstrained_state g
 
-abbrev pub rest_of_stage : Registration → Stage → AvailableConsumer → Result → Action (Unit {0})
+abbrev pub rest_of_stage : Registration → Stage → AvailableConsumer → Result (Unit {0}) Error → Action (Unit {0})
 rest_of_stage g Stage.Psu new a = do
   ok a
   post_consumer_connected g new
@@ -91,7 +90,7 @@ rest_of_stage g (Stage.Attaching i) new a = do
   charger_ok a
   charged g (g.chargers - suc i) (suc i) new
 
-abbrev pub rest : Registration → Phase → Result → Action (Unit {0})
+abbrev pub rest : Registration → Phase → Result (Unit {0}) Error → Action (Unit {0})
 rest g (Phase.Closed b) a = skip
 rest g (Phase.Leaving i p f) a = do
   charger_ok a
@@ -135,12 +134,12 @@ LeaverFits chargers (Leaver.Charger i) = i < chargers
 
 -- the new consumer is not told of yet
 pub record NotConnected (n : Notices) : Type 0 where
-  pub connected : n.connected ≡ OptionAvailableConsumer.None
-  pub unconstrained : n.unconstrained ≡ UnconstrainedNotice.None
+  pub connected : n.connected ≡ None
+  pub unconstrained : n.unconstrained ≡ None
 
 -- no consumer is told of yet
 pub record NotUpdated (n : Notices) : Type 0 where
-  pub disconnected : n.disconnected ≡ DisconnectedNotice.None
+  pub disconnected : n.disconnected ≡ None
   pub later : NotConnected n
 
 abbrev pub Fits : ℕ → Phase → Notices → Type 0

@@ -1,20 +1,18 @@
 -- The packet of the event closed last, and the full picture of what is held; and what turns them back.
-use Rattle.std.specs.Prelude.{ℕ, Bool, cond, List, eqb}
+use Rattle.std.specs.Prelude.{ℕ, Bool, cond, List, eqb, Err, None, Ok, Option, Result, Some}
 use Rattle.power_policy_interface.specs.Psu.{answer_byte}
 use Rattle.power_policy_interface.specs.declared.service.event.Event.{Event}
 use Rattle.interface_display.specs.Notices.{empty, pushed}
-use Rattle.interface_display.specs.declared.OptionAvailableConsumer.{OptionAvailableConsumer}
+use Rattle.interface_display.specs.declared.AvailableConsumer.{AvailableConsumer}
+use Rattle.power_policy_interface.specs.declared.service.UnconstrainedState.{UnconstrainedState}
 use Rattle.interface_display.specs.declared.notices.Notices as display
 use Rattle.interface_display.specs.declared.packet.EventPacket.{EventPacket}
 use Rattle.interface_display.specs.declared.packet.Picture.{Picture}
 use Rattle.abstract_policy.specs.Refusals.{first_refused, packet_conditions, picture_conditions}
 use Rattle.abstract_policy.specs.State.{display_of}
-use Rattle.abstract_policy.specs.declared.outcome.SentPacket.{SentPacket}
-use Rattle.abstract_policy.specs.declared.outcome.SentPicture.{SentPicture}
-use Rattle.machine_state.specs.declared.memory.DisconnectedNotice.{DisconnectedNotice}
+use Rattle.machine_state.specs.declared.memory.Disconnected.{Disconnected}
 use Rattle.machine_state.specs.declared.memory.Notices.{Notices}
 use Rattle.machine_state.specs.declared.memory.ProviderNotice.{ProviderNotice}
-use Rattle.machine_state.specs.declared.memory.UnconstrainedNotice.{UnconstrainedNotice}
 use Rattle.machine_state.specs.declared.phase.Phase.{Phase}
 use Rattle.machine_service.specs.Refusals.{is_open}
 use Rattle.machine_service.specs.declared.Service.{Service}
@@ -26,17 +24,17 @@ push_provider l ProviderNotice.None = l
 push_provider l (ProviderNotice.Disconnected p) = pushed l (Event.ProviderDisconnected p)
 push_provider l (ProviderNotice.Connected p c) = pushed l (Event.ProviderConnected p c)
 
-abbrev pub push_disconnected : display.Notices → DisconnectedNotice → display.Notices
-push_disconnected l DisconnectedNotice.None = l
-push_disconnected l (DisconnectedNotice.Some p f) = pushed l (Event.ConsumerDisconnected p f)
+abbrev pub push_disconnected : display.Notices → Option Disconnected → display.Notices
+push_disconnected l None = l
+push_disconnected l (Some d) = pushed l (Event.ConsumerDisconnected d.port d.flags)
 
-abbrev pub push_connected : display.Notices → OptionAvailableConsumer → display.Notices
-push_connected l OptionAvailableConsumer.None = l
-push_connected l (OptionAvailableConsumer.Some c) = pushed l (Event.ConsumerConnected c.psu c.consumer_power_capability)
+abbrev pub push_connected : display.Notices → Option AvailableConsumer → display.Notices
+push_connected l None = l
+push_connected l (Some c) = pushed l (Event.ConsumerConnected c.psu c.consumer_power_capability)
 
-abbrev pub push_unconstrained : display.Notices → UnconstrainedNotice → display.Notices
-push_unconstrained l UnconstrainedNotice.None = l
-push_unconstrained l (UnconstrainedNotice.Some u) = pushed l (Event.Unconstrained u)
+abbrev pub push_unconstrained : display.Notices → Option UnconstrainedState → display.Notices
+push_unconstrained l None = l
+push_unconstrained l (Some u) = pushed l (Event.Unconstrained u)
 
 abbrev pub notices_of : Notices → display.Notices
 notices_of n =
@@ -65,12 +63,12 @@ packet_refusals s = packet_conditions (is_open s.phase) s.number
 abbrev pub picture_refusals : Service → List (Bool × ℕ)
 picture_refusals s = picture_conditions (is_open s.phase)
 
-abbrev pub send_packet : Service → SentPacket
+abbrev pub send_packet : Service → Result EventPacket ℕ
 send_packet s =
     let n : ℕ = first_refused (packet_refusals s) in
-    cond (eqb n 0) (SentPacket.Packet (packet_of s)) (SentPacket.Refused n)
+    cond (eqb n 0) (Ok (packet_of s)) (Err n)
 
-abbrev pub send_picture : Service → SentPicture
+abbrev pub send_picture : Service → Result Picture ℕ
 send_picture s =
     let n : ℕ = first_refused (picture_refusals s) in
-    cond (eqb n 0) (SentPicture.Picture (picture_of s)) (SentPicture.Refused n)
+    cond (eqb n 0) (Ok (picture_of s)) (Err n)

@@ -1,56 +1,49 @@
 // What the service has for the desk: the packet of the event closed last, and the full picture.
 ghost use Rattle.std.specs.Prelude.{◌≡◌};
-ghost use Rattle.machine_service.specs.Send.{push_provider, push_disconnected, push_connected, push_unconstrained, notices_of, answer_byte_of, packet_of, picture_of, send_packet, send_picture};
+ghost use Rattle.power_policy_interface.specs.Refusal.{numbered};
+ghost use Rattle.machine_service.specs.Send.{push_provider, push_disconnected, push_connected, push_unconstrained, notices_of, packet_of, picture_of, send_packet, send_picture};
 
-use crate::Service;
-use abstract_policy::outcome::{SentPacket, SentPicture};
-use interface_display::OptionAvailableConsumer;
+use crate::{Service, answer_in};
+use interface_display::AvailableConsumer;
 use interface_display::notices::Notices;
 use interface_display::packet::{EventPacket, Picture};
-use machine_state::memory::{DisconnectedNotice, ProviderNotice, UnconstrainedNotice};
-use machine_state::phase::Phase;
+use machine_state::memory::{Disconnected, ProviderNotice};
 use power_policy_interface::psu;
+use power_policy_interface::refusal::Refusal;
+use power_policy_interface::service::UnconstrainedState;
 use power_policy_interface::service::event::Event;
 
-fn push_provider(list: Notices, notice: ProviderNotice) -> Notices
-    ensures { result ≡ push_provider list notice }
+fn push_provider(list: &mut Notices, notice: ProviderNotice)
+    ensures { list.new ≡ push_provider list.old notice }
 {
     match notice {
-        ProviderNotice::None => list,
+        ProviderNotice::None => {}
         ProviderNotice::Disconnected(port) => list.push(Event::ProviderDisconnected(port)),
         ProviderNotice::Connected(port, c) => list.push(Event::ProviderConnected(port, c)),
     }
 }
 
-fn push_disconnected(list: Notices, notice: DisconnectedNotice) -> Notices
-    ensures { result ≡ push_disconnected list notice }
+fn push_disconnected(list: &mut Notices, notice: Option<Disconnected>)
+    ensures { list.new ≡ push_disconnected list.old notice }
 {
-    match notice {
-        DisconnectedNotice::None => list,
-        DisconnectedNotice::Some(port, flags) => list.push(Event::ConsumerDisconnected(
-            port, flags,
-        )),
+    if let Some(d) = notice {
+        list.push(Event::ConsumerDisconnected(d.port, d.flags));
     }
 }
 
-fn push_connected(list: Notices, notice: OptionAvailableConsumer) -> Notices
-    ensures { result ≡ push_connected list notice }
+fn push_connected(list: &mut Notices, notice: Option<AvailableConsumer>)
+    ensures { list.new ≡ push_connected list.old notice }
 {
-    match notice {
-        OptionAvailableConsumer::None => list,
-        OptionAvailableConsumer::Some(c) => {
-            let capability = c.consumer_power_capability;
-            list.push(Event::ConsumerConnected(c.psu, capability))
-        }
+    if let Some(c) = notice {
+        list.push(Event::ConsumerConnected(c.psu, c.consumer_power_capability));
     }
 }
 
-fn push_unconstrained(list: Notices, notice: UnconstrainedNotice) -> Notices
-    ensures { result ≡ push_unconstrained list notice }
+fn push_unconstrained(list: &mut Notices, notice: Option<UnconstrainedState>)
+    ensures { list.new ≡ push_unconstrained list.old notice }
 {
-    match notice {
-        UnconstrainedNotice::None => list,
-        UnconstrainedNotice::Some(u) => list.push(Event::Unconstrained(u)),
+    if let Some(u) = notice {
+        list.push(Event::Unconstrained(u));
     }
 }
 
@@ -58,72 +51,53 @@ fn push_unconstrained(list: Notices, notice: UnconstrainedNotice) -> Notices
 pub fn notices_of(notices: machine_state::memory::Notices) -> Notices
     ensures { result ≡ notices_of notices }
 {
-    let provider = notices.provider;
-    let disconnected = notices.disconnected;
-    let connected = notices.connected;
-    let unconstrained = notices.unconstrained;
-    let first = push_provider(Notices::new(), provider);
-    let second = push_disconnected(first, disconnected);
-    push_unconstrained(push_connected(second, connected), unconstrained)
-}
-
-// The answer byte of the event closed last.
-fn answer_byte(phase: Phase) -> u8
-    ensures { result ≡ answer_byte_of phase }
-{
-    match phase {
-        Phase::Closed(answer) => answer.byte(),
-        Phase::Leaving(_, _, _) => 0,
-        Phase::Switching(_, _, _, _) => 0,
-        Phase::Connecting(_, _) => 0,
-        Phase::Providing(_, _) => 0,
-    }
+    let mut list = Notices::new();
+    push_provider(&mut list, notices.provider);
+    push_disconnected(&mut list, notices.disconnected);
+    push_connected(&mut list, notices.connected);
+    push_unconstrained(&mut list, notices.unconstrained);
+    list
 }
 
 fn packet_of(service: Service) -> EventPacket
     ensures { result ≡ packet_of service }
 {
-    let memory = service.memory;
-    let notices = memory.notices;
-    let phase = service.phase;
     EventPacket {
         number: service.number,
-        answer: answer_byte(phase),
+        answer: psu::answer_byte(answer_in(service.phase)),
         orders: service.orders,
-        notices: notices_of(notices),
+        notices: notices_of(service.memory.notices),
     }
 }
 
-// The packet of the event closed last: 25 while an event is open, 27 before event 1.
-pub fn packet(service: Service) -> SentPacket
-    ensures { result ≡ send_packet service }
+// The packet of the event closed last: none while an event is open, and none before event 1.
+pub fn packet(service: Service) -> Result<EventPacket, Refusal>
+    ensures { numbered result ≡ send_packet service }
 {
     if service.is_open() {
-        return SentPacket::Refused(25);
+        return Err(Refusal::EventOpen);
     }
     if service.number == 0 {
-        return SentPacket::Refused(27);
+        return Err(Refusal::NoEvent);
     }
-    SentPacket::Packet(packet_of(service))
+    Ok(packet_of(service))
 }
 
 fn picture_of(service: Service) -> Picture
     ensures { result ≡ picture_of service }
 {
-    let memory = service.memory;
-    let state = memory.state;
     Picture {
         number: service.number,
-        display: state.display(),
+        display: service.memory.state.display(),
     }
 }
 
-// What is held at the number closed last: 25 while an event is open.
-pub fn picture(service: Service) -> SentPicture
-    ensures { result ≡ send_picture service }
+// What is held at the number closed last: none while an event is open.
+pub fn picture(service: Service) -> Result<Picture, Refusal>
+    ensures { numbered result ≡ send_picture service }
 {
     if service.is_open() {
-        return SentPicture::Refused(25);
+        return Err(Refusal::EventOpen);
     }
-    SentPicture::Picture(picture_of(service))
+    Ok(picture_of(service))
 }

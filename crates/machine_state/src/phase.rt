@@ -3,7 +3,7 @@ ghost use Rattle.std.specs.Prelude.{◌≡◌};
 ghost use Rattle.machine_state.specs.Phase.{order_of, switch_order, connect_order, outcome_of};
 
 use crate::memory::Memory;
-use abstract_policy::order::{OptionOrder, Order};
+use abstract_policy::order::Order;
 use interface_display::AvailableConsumer;
 use power_policy_interface::capability::{DisconnectFlags, ProviderPowerCapability};
 use power_policy_interface::psu;
@@ -34,7 +34,7 @@ pub enum Stage {
 #[derive(Clone, Copy)]
 pub enum Phase {
     // Closed with this answer.
-    Closed(psu::Result),
+    Closed(Result<(), psu::Error>),
     // No consumer is left: this charger is being detached from that port.
     Leaving(u8, u8, DisconnectFlags),
     // The consumer of this port gives way to a new one.
@@ -46,20 +46,17 @@ pub enum Phase {
 }
 
 // What an answer to the order comes to: a charger's error is Charger, and a wait does not fail.
-pub fn outcome(order: Order, answer: psu::Result) -> psu::Result
+pub fn outcome(order: Order, answer: Result<(), psu::Error>) -> Result<(), psu::Error>
     ensures { result ≡ outcome_of order answer }
 {
     match answer {
-        psu::Result::Ok => psu::Result::Ok,
-        psu::Result::Err(e) => match order {
-            Order::Disconnect(_) => psu::Result::Err(e),
-            Order::ConnectConsumer(_, _) => psu::Result::Err(e),
-            Order::ConnectProvider(_, _) => psu::Result::Err(e),
-            Order::IsReady(_) => psu::Result::Err(psu::Error::Charger),
-            Order::InitCharger(_) => psu::Result::Err(psu::Error::Charger),
-            Order::Attach(_, _) => psu::Result::Err(psu::Error::Charger),
-            Order::Detach(_) => psu::Result::Err(psu::Error::Charger),
-            Order::Wait => psu::Result::Ok,
+        Ok(()) => Ok(()),
+        Err(e) => match order {
+            Order::Disconnect(_) | Order::ConnectConsumer(_, _) | Order::ConnectProvider(_, _) => {
+                Err(e)
+            }
+            Order::Wait => Ok(()),
+            _ => Err(psu::Error::Charger),
         },
     }
 }
@@ -79,27 +76,26 @@ impl Stage {
     pub fn order(self, new: AvailableConsumer) -> Order
         ensures { result ≡ connect_order self new }
     {
-        let capability = new.consumer_power_capability;
         match self {
-            Stage::Psu => Order::ConnectConsumer(new.psu, capability),
+            Stage::Psu => Order::ConnectConsumer(new.psu, new.consumer_power_capability),
             Stage::Settling => Order::Wait,
             Stage::Readying(i) => Order::IsReady(i),
             Stage::Initializing(i) => Order::InitCharger(i),
-            Stage::Attaching(i) => Order::Attach(i, capability),
+            Stage::Attaching(i) => Order::Attach(i, new.consumer_power_capability),
         }
     }
 }
 
 impl Phase {
-    pub fn order(self) -> OptionOrder
+    pub fn order(self) -> Option<Order>
         ensures { result ≡ order_of self }
     {
         match self {
-            Phase::Closed(_) => OptionOrder::None,
-            Phase::Leaving(i, _, _) => OptionOrder::Some(Order::Detach(i)),
-            Phase::Switching(leaver, port, _, _) => OptionOrder::Some(leaver.order(port)),
-            Phase::Connecting(stage, new) => OptionOrder::Some(stage.order(new)),
-            Phase::Providing(port, c) => OptionOrder::Some(Order::ConnectProvider(port, c)),
+            Phase::Closed(_) => None,
+            Phase::Leaving(i, _, _) => Some(Order::Detach(i)),
+            Phase::Switching(leaver, port, _, _) => Some(leaver.order(port)),
+            Phase::Connecting(stage, new) => Some(stage.order(new)),
+            Phase::Providing(port, c) => Some(Order::ConnectProvider(port, c)),
         }
     }
 }

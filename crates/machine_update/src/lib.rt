@@ -2,21 +2,57 @@
 #![tactic(auto)]
 
 ghost use Rattle.std.specs.Prelude.{◌≡◌};
-ghost use Rattle.abstract_policy.specs.Interaction.{available_of, offers_unconstrained, consumer_flag, reason_of, same_available, find_best_consumer, is_connected_consumer};
-ghost use Rattle.machine_update.specs.Update.{closed, at, updated_to, finish_update_of, connect_psu_of, switch_of, disconnect_of, connect_new_of, left_of, leave_of, connecting_phase, charge_of, charge_stage, update_of};
+ghost use Rattle.abstract_policy.specs.Interaction.{available_of, offers_unconstrained, consumer_flag, reason_of, find_best_consumer, is_connected_consumer};
+ghost use Rattle.machine_update.specs.Update.{closed, at, updated_to, finish_update_of, connect_psu_of, switch_of, disconnect_of, connect_new_of, left_of, leave_of, switching, connecting_phase, charge_of, charge_stage, update_of};
 
 use abstract_policy::state::{Records, Registration};
-use interface_display::{AvailableConsumer, OptionAvailableConsumer};
+use interface_display::AvailableConsumer;
 use machine_state::memory::{Memory, next_powered};
 use machine_state::phase::{Leaver, Phase, Stage, Turn};
-use power_policy_interface::capability::{
-    DisconnectFlags, DisconnectReason, OptionConsumerPowerCapability, OptionDisconnectReason,
-};
+use power_policy_interface::capability::{DisconnectFlags, DisconnectReason};
 use power_policy_interface::psu;
 use power_policy_interface::service::UnconstrainedState;
 use power_policy_service::consumer::find_best_consumer_default;
 
-pub fn close(res: psu::Result, memory: Memory) -> Turn
+// What a step of an event reads: what is registered, and the present records.
+#[derive(Clone, Copy)]
+pub struct Present {
+    pub registration: Registration,
+    pub records: Records,
+}
+
+// The consumer of a port gives way to a new one, with the event's reason.
+#[derive(Clone, Copy)]
+pub struct Switch {
+    pub old: u8,
+    pub flags: DisconnectFlags,
+    pub to: AvailableConsumer,
+}
+
+impl Switch {
+    // Why the old consumer is disconnected.
+    fn reason(self) -> DisconnectFlags
+        ensures { result ≡ reason_of self.old self.to self.flags }
+    {
+        let reason = if self.old == self.to.psu {
+            DisconnectReason::AutoRenegotiation
+        } else {
+            self.flags.reason.unwrap_or(DisconnectReason::Switching)
+        };
+        DisconnectFlags {
+            reason: Some(reason),
+        }
+    }
+
+    // What is left of the event while this one is disconnected.
+    fn phase(self, leaver: Leaver) -> Phase
+        ensures { result ≡ switching leaver self.old self.flags self.to }
+    {
+        Phase::Switching(leaver, self.old, self.flags, self.to)
+    }
+}
+
+pub fn close(res: Result<(), psu::Error>, memory: Memory) -> Turn
     ensures { result ≡ closed res memory }
 {
     Turn {
@@ -29,14 +65,8 @@ pub fn close(res: psu::Result, memory: Memory) -> Turn
 fn offers_unconstrained(s: psu::State) -> bool
     ensures { result ≡ offers_unconstrained s }
 {
-    let capability = s.consumer_capability;
-    match capability {
-        OptionConsumerPowerCapability::None => false,
-        OptionConsumerPowerCapability::Some(c) => {
-            let flags = c.flags;
-            flags.unconstrained_power
-        }
-    }
+    s.consumer_capability
+        .is_some_and(|c| c.flags.unconstrained_power)
 }
 
 // How many ports do, under the minimum or not.
@@ -44,225 +74,46 @@ fn available(records: Records, ports: u8) -> u8
     ensures { result ≡ available_of records ports }
 {
     let mut n: u8 = 0;
-    let mut i: u8 = 0;
-    while i < ports {
-        if offers_unconstrained(records.psu(i)) {
-            n += 1;
-        }
-        i += 1;
+    for i in 0..ports {
+        n += u8::from(offers_unconstrained(records.psu(i)));
     }
     n
 }
 
 // Whether the consumer draws unconstrained power.
-fn consumer_flag(consumer: OptionAvailableConsumer) -> bool
+fn consumer_flag(consumer: Option<AvailableConsumer>) -> bool
     ensures { result ≡ consumer_flag consumer }
 {
-    match consumer {
-        OptionAvailableConsumer::None => false,
-        OptionAvailableConsumer::Some(c) => {
-            let capability = c.consumer_power_capability;
-            let flags = capability.flags;
-            flags.unconstrained_power
-        }
-    }
+    consumer.is_some_and(|c| c.consumer_power_capability.flags.unconstrained_power)
 }
 
 // Sets the unconstrained figures, with a notice, if either differs.
 fn set_unconstrained(new: UnconstrainedState, memory: Memory) -> Memory
     ensures { result ≡ updated_to new memory }
 {
-    let state = memory.state;
-    let notices = memory.notices;
-    let old = state.unconstrained;
-    if new.same(old) {
+    if new == memory.state.unconstrained {
         return memory;
     }
     Memory {
-        state: state.with_unconstrained(new),
-        notices: notices.tell_unconstrained(new),
+        state: memory.state.with_unconstrained(new),
+        notices: memory.notices.tell_unconstrained(new),
     }
-}
-
-// The last step of an update, which closes the event without error (update_unconstrained_state).
-pub fn finish_update(registration: Registration, memory: Memory, records: Records) -> Turn
-    ensures { result ≡ finish_update_of registration memory records }
-{
-    let state = memory.state;
-    let consumer = state.current_consumer_state;
-    let new = UnconstrainedState {
-        unconstrained: consumer_flag(consumer),
-        available: available(records, registration.ports),
-    };
-    close(psu::Result::Ok, set_unconstrained(new, memory))
-}
-
-// Checks that the new consumer can be connected, and orders it.
-fn connect_psu(memory: Memory, new: AvailableConsumer, records: Records) -> Turn
-    ensures { result ≡ connect_psu_of memory new records }
-{
-    let result = records.psu(new.psu).can_connect_consumer();
-    match result {
-        psu::Result::Ok => Turn {
-            phase: Phase::Connecting(Stage::Psu, new),
-            memory,
-        },
-        psu::Result::Err(e) => close(psu::Result::Err(e), memory),
-    }
-}
-
-// Why the old consumer is disconnected.
-fn switch_reason(old: u8, new: AvailableConsumer, flags: DisconnectFlags) -> DisconnectFlags
-    ensures { result ≡ reason_of old new flags }
-{
-    if old == new.psu {
-        return DisconnectFlags {
-            reason: OptionDisconnectReason::Some(DisconnectReason::AutoRenegotiation),
-        };
-    }
-    let reason = flags.reason;
-    match reason {
-        OptionDisconnectReason::None => DisconnectFlags {
-            reason: OptionDisconnectReason::Some(DisconnectReason::Switching),
-        },
-        OptionDisconnectReason::Some(r) => DisconnectFlags {
-            reason: OptionDisconnectReason::Some(r),
-        },
-    }
-}
-
-// Detaches the powered chargers from one on, then connects the new consumer.
-pub fn switch_from(
-    registration: Registration,
-    memory: Memory,
-    from: u8,
-    old: u8,
-    flags: DisconnectFlags,
-    new: AvailableConsumer,
-    records: Records,
-) -> Turn
-    ensures { result ≡ switch_of registration memory from old flags new records }
-{
-    let count = registration.chargers;
-    let next = next_powered(records, count, from);
-    if next < count {
-        return Turn {
-            phase: Phase::Switching(Leaver::Charger(next), old, flags, new),
-            memory,
-        };
-    }
-    let state = memory.state;
-    let notices = memory.notices;
-    let told = Memory {
-        state,
-        notices: notices.tell_disconnected(old, switch_reason(old, new, flags)),
-    };
-    connect_psu(told, new, records)
-}
-
-fn same_available(a: AvailableConsumer, b: AvailableConsumer) -> bool
-    ensures { result ≡ same_available a b }
-{
-    if a.psu != b.psu {
-        return false;
-    }
-    let x = a.consumer_power_capability;
-    let y = b.consumer_power_capability;
-    y.same(x)
 }
 
 fn is_connected_consumer(s: psu::PsuState) -> bool
     ensures { result ≡ is_connected_consumer s }
 {
-    match s {
-        psu::PsuState::ConnectedConsumer(_) => true,
-        psu::PsuState::Idle => false,
-        psu::PsuState::ConnectedProvider(_) => false,
-        psu::PsuState::Detached => false,
-    }
-}
-
-// Disconnects the old consumer's PSU if it is connected as consumer, and its chargers. From here on there is no consumer.
-fn disconnect_current(
-    registration: Registration,
-    memory: Memory,
-    old: u8,
-    flags: DisconnectFlags,
-    new: AvailableConsumer,
-    records: Records,
-) -> Turn
-    ensures { result ≡ disconnect_of registration memory old flags new records }
-{
-    let state = memory.state;
-    let notices = memory.notices;
-    let cleared = Memory {
-        state: state.with_consumer(OptionAvailableConsumer::None),
-        notices,
-    };
-    let s = records.psu(old);
-    let psu_state = s.psu_state;
-    if is_connected_consumer(psu_state) {
-        return Turn {
-            phase: Phase::Switching(Leaver::Psu, old, flags, new),
-            memory: cleared,
-        };
-    }
-    switch_from(registration, cleared, 0, old, flags, new, records)
-}
-
-// Connects a new consumer. The same port with the same capability needs nothing.
-fn connect_new_consumer(
-    registration: Registration,
-    memory: Memory,
-    new: AvailableConsumer,
-    flags: DisconnectFlags,
-    records: Records,
-) -> Turn
-    ensures { result ≡ connect_new_of registration memory new flags records }
-{
-    let state = memory.state;
-    let consumer = state.current_consumer_state;
-    let OptionAvailableConsumer::Some(current) = consumer else {
-        return connect_psu(memory, new, records);
-    };
-    if same_available(current, new) {
-        return finish_update(registration, memory, records);
-    }
-    disconnect_current(registration, memory, current.psu, flags, new, records)
+    matches!(s, psu::PsuState::ConnectedConsumer(_))
 }
 
 // The consumer of this port is left, and there is none.
 fn left(memory: Memory, port: u8, flags: DisconnectFlags) -> Memory
     ensures { result ≡ left_of memory port flags }
 {
-    let state = memory.state;
-    let notices = memory.notices;
     Memory {
-        state: state.with_consumer(OptionAvailableConsumer::None),
-        notices: notices.tell_disconnected(port, flags),
+        state: memory.state.with_consumer(None),
+        notices: memory.notices.tell_disconnected(port, flags),
     }
-}
-
-// Detaches the powered chargers from one on, then no consumer is left.
-pub fn leave_from(
-    registration: Registration,
-    memory: Memory,
-    from: u8,
-    port: u8,
-    flags: DisconnectFlags,
-    records: Records,
-) -> Turn
-    ensures { result ≡ leave_of registration memory from port flags records }
-{
-    let count = registration.chargers;
-    let next = next_powered(records, count, from);
-    if next < count {
-        return Turn {
-            phase: Phase::Leaving(next, port, flags),
-            memory,
-        };
-    }
-    finish_update(registration, left(memory, port, flags), records)
 }
 
 pub fn connecting(stage: Stage, new: AvailableConsumer, memory: Memory) -> Turn
@@ -279,76 +130,145 @@ fn charger_stage(unpowered: bool, i: u8) -> Stage
     ensures { result ≡ charge_stage unpowered i }
 {
     if unpowered {
-        return Stage::Readying(i);
+        Stage::Readying(i)
+    } else {
+        Stage::Attaching(i)
     }
-    Stage::Attaching(i)
 }
 
-// The consumer is connected: readies, initializes and attaches the chargers from one on.
-pub fn charge_from(
-    registration: Registration,
-    memory: Memory,
-    i: u8,
-    new: AvailableConsumer,
-    records: Records,
-) -> Turn
-    ensures { result ≡ charge_of registration memory i new records }
-{
-    if i < registration.chargers {
-        return connecting(charger_stage(records.unpowered(i), i), new, memory);
+impl Present {
+    // The last step of an update, which closes the event without error (update_unconstrained_state).
+    pub fn finish_update(self, memory: Memory) -> Turn
+        ensures { result ≡ finish_update_of self.registration memory self.records }
+    {
+        let new = UnconstrainedState {
+            unconstrained: consumer_flag(memory.state.current_consumer_state),
+            available: available(self.records, self.registration.ports),
+        };
+        close(Ok(()), set_unconstrained(new, memory))
     }
-    let state = memory.state;
-    let notices = memory.notices;
-    let told = Memory {
-        state,
-        notices: notices.tell_connected(new),
-    };
-    finish_update(registration, told, records)
-}
 
-// The best consumer among the ports.
-fn choose(registration: Registration, memory: Memory, records: Records) -> OptionAvailableConsumer
-    ensures { result ≡ find_best_consumer registration memory.state records }
-{
-    let state = memory.state;
-    let consumer = state.current_consumer_state;
-    let config = registration.config;
-    let minimum = config.min_consumer_threshold_mw;
-    let psus = records.psus;
-    find_best_consumer_default(minimum, consumer, psus, registration.ports)
-}
+    // Checks that the new consumer can be connected, and orders it.
+    fn connect_psu(self, memory: Memory, new: AvailableConsumer) -> Turn
+        ensures { result ≡ connect_psu_of memory new self.records }
+    {
+        match self.records.psu(new.psu).can_connect_consumer() {
+            Ok(()) => connecting(Stage::Psu, new, memory),
+            Err(e) => close(Err(e), memory),
+        }
+    }
 
-// Determines and connects the best external power.
-pub fn update_current_consumer(
-    registration: Registration,
-    memory: Memory,
-    flags: DisconnectFlags,
-    records: Records,
-) -> Turn
-    ensures { result ≡ update_of registration memory flags records }
-{
-    match choose(registration, memory, records) {
-        OptionAvailableConsumer::Some(new) => connect_new_consumer(
-            registration,
-            memory,
-            new,
-            flags,
-            records,
-        ),
-        OptionAvailableConsumer::None => {
-            let state = memory.state;
-            let consumer = state.current_consumer_state;
-            match consumer {
-                OptionAvailableConsumer::None => finish_update(registration, memory, records),
-                OptionAvailableConsumer::Some(c) => leave_from(
-                    registration,
-                    memory,
-                    0,
-                    c.psu,
-                    flags,
-                    records,
-                ),
+    // Detaches the powered chargers from one on, then connects the new consumer.
+    pub fn switch_from(self, memory: Memory, from: u8, switch: Switch) -> Turn
+        ensures { result ≡ switch_of self.registration memory from switch.old switch.flags switch.to self.records }
+    {
+        match next_powered(self.records, self.registration.chargers, from) {
+            Some(next) => Turn {
+                phase: switch.phase(Leaver::Charger(next)),
+                memory,
+            },
+            None => {
+                let notices = memory
+                    .notices
+                    .tell_disconnected(switch.old, switch.reason());
+                self.connect_psu(Memory { notices, ..memory }, switch.to)
             }
+        }
+    }
+
+    // Disconnects the old consumer's PSU if it is connected as consumer, and its chargers. From here on there is no consumer.
+    fn disconnect_current(self, memory: Memory, switch: Switch) -> Turn
+        ensures { result ≡ disconnect_of self.registration memory switch.old switch.flags switch.to self.records }
+    {
+        let cleared = Memory {
+            state: memory.state.with_consumer(None),
+            ..memory
+        };
+        if is_connected_consumer(self.records.psu(switch.old).psu_state) {
+            return Turn {
+                phase: switch.phase(Leaver::Psu),
+                memory: cleared,
+            };
+        }
+        self.switch_from(cleared, 0, switch)
+    }
+
+    // Connects a new consumer. The same port with the same capability needs nothing.
+    fn connect_new_consumer(
+        self,
+        memory: Memory,
+        new: AvailableConsumer,
+        flags: DisconnectFlags,
+    ) -> Turn
+        ensures { result ≡ connect_new_of self.registration memory new flags self.records }
+    {
+        match memory.state.current_consumer_state {
+            None => self.connect_psu(memory, new),
+            Some(current) => {
+                if current == new {
+                    self.finish_update(memory)
+                } else {
+                    let old = current.psu;
+                    self.disconnect_current(
+                        memory,
+                        Switch {
+                            old,
+                            flags,
+                            to: new,
+                        },
+                    )
+                }
+            }
+        }
+    }
+
+    // Detaches the powered chargers from one on, then no consumer is left.
+    pub fn leave_from(self, memory: Memory, from: u8, port: u8, flags: DisconnectFlags) -> Turn
+        ensures { result ≡ leave_of self.registration memory from port flags self.records }
+    {
+        match next_powered(self.records, self.registration.chargers, from) {
+            Some(next) => Turn {
+                phase: Phase::Leaving(next, port, flags),
+                memory,
+            },
+            None => self.finish_update(left(memory, port, flags)),
+        }
+    }
+
+    // The consumer is connected: readies, initializes and attaches the chargers from one on.
+    pub fn charge_from(self, memory: Memory, i: u8, new: AvailableConsumer) -> Turn
+        ensures { result ≡ charge_of self.registration memory i new self.records }
+    {
+        if i < self.registration.chargers {
+            return connecting(charger_stage(self.records.unpowered(i), i), new, memory);
+        }
+        let told = Memory {
+            notices: memory.notices.tell_connected(new),
+            ..memory
+        };
+        self.finish_update(told)
+    }
+
+    // The best consumer among the ports.
+    fn choose(self, memory: Memory) -> Option<AvailableConsumer>
+        ensures { result ≡ find_best_consumer self.registration memory.state self.records }
+    {
+        find_best_consumer_default(
+            self.registration.config.min_consumer_threshold_mw,
+            memory.state.current_consumer_state,
+            self.records.psus,
+            self.registration.ports,
+        )
+    }
+
+    // Determines and connects the best external power.
+    pub fn update_current_consumer(self, memory: Memory, flags: DisconnectFlags) -> Turn
+        ensures { result ≡ update_of self.registration memory flags self.records }
+    {
+        match (self.choose(memory), memory.state.current_consumer_state) {
+            (Some(new), _) => self.connect_new_consumer(memory, new, flags),
+            (None, None) => self.finish_update(memory),
+            (None, Some(c)) => self.leave_from(memory, 0, c.psu, flags),
         }
     }
 }

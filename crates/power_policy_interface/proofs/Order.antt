@@ -6,7 +6,7 @@ use Prim.Native.Nat.compare
 use Prim.Native.Nat.{compare}
 use native.Mathlib.Nat.{le_of_suc-le-suc, not-suc-le-zero}
 use Rattle.power_policy_interface.specs.Order.{cmp_nat, ordering_of}
-use Rattle.power_policy_interface.specs.declared.capability.Ordering.{Ordering}
+use Rattle.std.specs.declared.cmp.Ordering.{Ordering}
 
 compare_lt : (a b : ℕ) → a < b → compare a b ≡ Prim.Native.Nat.Ordering.lt
 compare_lt a zero h = absurd (not-suc-le-zero h)

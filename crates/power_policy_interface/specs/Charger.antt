@@ -1,24 +1,25 @@
 -- LEA-3: what the functions of charger.rt and charger/event.rt compute, line by line as charger/mod.rs has it.
-use Rattle.std.specs.Prelude.{ℕ, Bool, true, false, [], ◌∷◌, slice_index_or}
+use Rattle.std.specs.Prelude.{ℕ, Bool, true, false, [], ◌∷◌, slice_index_or, Err, None, Ok, Option, Result, Some}
 use Rattle.power_policy_interface.specs.declared.capability.ConsumerPowerCapability.{ConsumerPowerCapability}
-use Rattle.power_policy_interface.specs.declared.capability.OptionConsumerPowerCapability.{OptionConsumerPowerCapability}
 use Rattle.power_policy_interface.specs.declared.charger.event.PsuState.{PsuState}
-use Rattle.power_policy_interface.specs.declared.charger.event.OptionPsuState.{OptionPsuState}
 use Rattle.power_policy_interface.specs.declared.charger.ChargerError.{ChargerError}
-use Rattle.power_policy_interface.specs.declared.charger.Result.{Result}
 use Rattle.power_policy_interface.specs.declared.charger.PoweredSubstate.{PoweredSubstate}
 use Rattle.power_policy_interface.specs.declared.charger.InternalState.{InternalState}
 use Rattle.power_policy_interface.specs.declared.charger.State.{State}
-use Rattle.power_policy_interface.specs.declared.charger.Transition.{Transition}
+
+-- what a transition returns, and the record after it
+pub record Transition : Type 0 where
+  pub result : Result (Unit {0}) ChargerError
+  pub state : State
 
 abbrev pub psu_state_of : Bool → PsuState
 psu_state_of true = PsuState.Attached
 psu_state_of false = PsuState.Detached
 
 -- 0 Attached, 1 Detached; above 1 is refused (REF-24)
-abbrev pub psu_state_from : ℕ → OptionPsuState
+abbrev pub psu_state_from : ℕ → Option PsuState
 psu_state_from b =
-    slice_index_or (OptionPsuState.Some PsuState.Attached ∷ OptionPsuState.Some PsuState.Detached ∷ []) b OptionPsuState.None
+    slice_index_or (Some PsuState.Attached ∷ Some PsuState.Detached ∷ []) b None
 
 -- SHP-10: 0 Unpowered, 1 Init, 2 PsuAttached, 3 PsuDetached
 abbrev pub internal_number : InternalState → ℕ
@@ -32,7 +33,7 @@ is_unpowered InternalState.Unpowered = true
 is_unpowered (InternalState.Powered s) = false
 
 abbrev pub default_state : State
-default_state = record { state = InternalState.Unpowered; capability = OptionConsumerPowerCapability.None }
+default_state = record { state = InternalState.Unpowered; capability = None }
 
 abbrev pub substate_of : PsuState → PoweredSubstate
 substate_of PsuState.Attached = PoweredSubstate.PsuAttached
@@ -40,10 +41,10 @@ substate_of PsuState.Detached = PoweredSubstate.PsuDetached
 
 abbrev pub powered_of : State → PsuState → Transition
 powered_of s p =
-    record { result = Result.Ok; state = record { state = InternalState.Powered (substate_of p); capability = s.capability } }
+    record { result = (Ok tt); state = record { state = InternalState.Powered (substate_of p); capability = s.capability } }
 
 abbrev pub invalid : State → Transition
-invalid s = record { result = Result.Err (ChargerError.InvalidState s.state); state = s }
+invalid s = record { result = Err (ChargerError.InvalidState s.state); state = s }
 
 abbrev pub initialized_in : InternalState → State → PsuState → Transition
 initialized_in InternalState.Unpowered s p = invalid s
@@ -68,7 +69,7 @@ timeout_of s = default_state
 
 abbrev pub ready_in : InternalState → State → State
 ready_in InternalState.Unpowered s =
-    record { state = InternalState.Powered PoweredSubstate.Init; capability = OptionConsumerPowerCapability.None }
+    record { state = InternalState.Powered PoweredSubstate.Init; capability = None }
 ready_in (InternalState.Powered p) s = s
 
 abbrev pub ready_success_of : State → State
@@ -78,7 +79,7 @@ abbrev pub ready_failure_of : State → State
 ready_failure_of s = record { state = InternalState.Unpowered; capability = s.capability }
 
 abbrev pub policy_attach_of : State → ConsumerPowerCapability → State
-policy_attach_of s c = record { state = s.state; capability = OptionConsumerPowerCapability.Some c }
+policy_attach_of s c = record { state = s.state; capability = Some c }
 
 abbrev pub policy_detach_of : State → State
-policy_detach_of s = record { state = s.state; capability = OptionConsumerPowerCapability.None }
+policy_detach_of s = record { state = s.state; capability = None }

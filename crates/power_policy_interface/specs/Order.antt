@@ -3,7 +3,7 @@
 use Rattle.std.specs.Prelude.{ℕ, Bool, true, false}
 use Prim.Native.Nat.{compare}
 use Prim.Native.Nat as Native
-use Rattle.power_policy_interface.specs.declared.capability.Ordering.{Ordering}
+use Rattle.std.specs.declared.cmp.Ordering.{Ordering}
 
 abbrev pub ordering_of : Native.Ordering → Ordering
 ordering_of Prim.Native.Nat.Ordering.lt = Ordering.Less

@@ -1,19 +1,19 @@
 -- LEA-2: what the functions of psu.rt compute, line by line as psu/mod.rs
 -- has it. A set of state kinds is a number with a bit per kind.
-use Rattle.std.specs.Prelude.{ℕ, ◌/◌, ◌%◌, ◌^◌, Bool, cond, List, [], ◌∷◌, ◌==◌, bit_or, slice_index_or}
+use Rattle.std.specs.Prelude.{ℕ, ◌/◌, ◌%◌, ◌^◌, Bool, cond, List, [], ◌∷◌, ◌==◌, bit_or, slice_index_or, Err, None, Ok, Option, Result, Some}
 use Rattle.power_policy_interface.specs.Capability.{same_option_provider}
 use Rattle.power_policy_interface.specs.declared.capability.ConsumerPowerCapability.{ConsumerPowerCapability}
 use Rattle.power_policy_interface.specs.declared.capability.ProviderPowerCapability.{ProviderPowerCapability}
-use Rattle.power_policy_interface.specs.declared.capability.OptionConsumerPowerCapability.{OptionConsumerPowerCapability}
-use Rattle.power_policy_interface.specs.declared.capability.OptionProviderPowerCapability.{OptionProviderPowerCapability}
+use Rattle.power_policy_interface.specs.declared.psu.Mismatch.{Mismatch}
 use Rattle.power_policy_interface.specs.declared.psu.StateKind.{StateKind}
 use Rattle.power_policy_interface.specs.declared.psu.PsuState.{PsuState}
 use Rattle.power_policy_interface.specs.declared.psu.State.{State}
 use Rattle.power_policy_interface.specs.declared.psu.Error.{Error}
-use Rattle.power_policy_interface.specs.declared.psu.OptionMismatch.{OptionMismatch}
-use Rattle.power_policy_interface.specs.declared.psu.Result.{Result}
-use Rattle.power_policy_interface.specs.declared.psu.OptionResult.{OptionResult}
-use Rattle.power_policy_interface.specs.declared.psu.Transition.{Transition}
+
+-- what a transition returns, and the record after it
+pub record Transition : Type 0 where
+  pub result : Result (Unit {0}) Error
+  pub state : State
 
 abbrev pub kind_number : StateKind → ℕ
 kind_number StateKind.Detached = 0
@@ -47,10 +47,10 @@ abbrev pub attached_kinds : ℕ
 attached_kinds = with_kind (with_kind (with_kind 0 StateKind.Idle) StateKind.ConnectedConsumer) StateKind.ConnectedProvider
 
 abbrev pub invalid_state : ℕ → StateKind → Error
-invalid_state expected actual = Error.InvalidState (OptionMismatch.Some (record { expected = expected; actual = actual }))
+invalid_state expected actual = Error.InvalidState (Some (record { expected = expected; actual = actual }))
 
-abbrev pub expect_of : ℕ → StateKind → Result
-expect_of expected actual = cond (has_kind expected actual) Result.Ok (Result.Err (invalid_state expected actual))
+abbrev pub expect_of : ℕ → StateKind → Result (Unit {0}) Error
+expect_of expected actual = cond (has_kind expected actual) (Ok tt) (Err (invalid_state expected actual))
 
 -- PKT-3: 1 InvalidDevice, then as written, to 10 Failed
 abbrev pub error_byte : Error → ℕ
@@ -66,43 +66,43 @@ error_byte Error.Charger = 9
 error_byte Error.Failed = 10
 
 -- PKT-5: what an InvalidState carries
-abbrev pub mismatch_of : Error → OptionMismatch
-mismatch_of Error.InvalidDevice = OptionMismatch.None
-mismatch_of Error.CannotProvide = OptionMismatch.None
-mismatch_of Error.CannotConsume = OptionMismatch.None
+abbrev pub mismatch_of : Error → Option Mismatch
+mismatch_of Error.InvalidDevice = None
+mismatch_of Error.CannotProvide = None
+mismatch_of Error.CannotConsume = None
 mismatch_of (Error.InvalidState m) = m
-mismatch_of Error.InvalidResponse = OptionMismatch.None
-mismatch_of Error.Busy = OptionMismatch.None
-mismatch_of Error.Timeout = OptionMismatch.None
-mismatch_of Error.Bus = OptionMismatch.None
-mismatch_of Error.Charger = OptionMismatch.None
-mismatch_of Error.Failed = OptionMismatch.None
+mismatch_of Error.InvalidResponse = None
+mismatch_of Error.Busy = None
+mismatch_of Error.Timeout = None
+mismatch_of Error.Bus = None
+mismatch_of Error.Charger = None
+mismatch_of Error.Failed = None
 
 -- its two bytes; 0 where there is none
 
-abbrev pub expected_byte : OptionMismatch → ℕ
-expected_byte OptionMismatch.None = 0
-expected_byte (OptionMismatch.Some m) = m.expected
+abbrev pub expected_byte : Option Mismatch → ℕ
+expected_byte None = 0
+expected_byte (Some m) = m.expected
 
-abbrev pub actual_byte : OptionMismatch → ℕ
-actual_byte OptionMismatch.None = 0
-actual_byte (OptionMismatch.Some m) = kind_number m.actual
+abbrev pub actual_byte : Option Mismatch → ℕ
+actual_byte None = 0
+actual_byte (Some m) = kind_number m.actual
 
 -- PKT-3: 0 done
-abbrev pub answer_byte : Result → ℕ
-answer_byte Result.Ok = 0
-answer_byte (Result.Err e) = error_byte e
+abbrev pub answer_byte : Result (Unit {0}) Error → ℕ
+answer_byte (Ok tt) = 0
+answer_byte (Err e) = error_byte e
 
-abbrev pub failed : Error → OptionResult
-failed e = OptionResult.Some (Result.Err e)
+abbrev pub failed : Error → Option (Result (Unit {0}) Error)
+failed e = Some (Err e)
 
-abbrev pub answers : List OptionResult
+abbrev pub answers : List (Option (Result (Unit {0}) Error))
 answers =
-    OptionResult.Some Result.Ok
+    Some (Ok tt)
     ∷ failed Error.InvalidDevice
     ∷ failed Error.CannotProvide
     ∷ failed Error.CannotConsume
-    ∷ failed (Error.InvalidState OptionMismatch.None)
+    ∷ failed (Error.InvalidState None)
     ∷ failed Error.InvalidResponse
     ∷ failed Error.Busy
     ∷ failed Error.Timeout
@@ -112,29 +112,29 @@ answers =
     ∷ []
 
 -- PKT-4: above 10 is refused; what a device's error carries is dropped
-abbrev pub answer_from : ℕ → OptionResult
-answer_from b = slice_index_or answers b OptionResult.None
+abbrev pub answer_from : ℕ → Option (Result (Unit {0}) Error)
+answer_from b = slice_index_or answers b None
 
 -- an answer as its byte carries it: without what an InvalidState carries
-abbrev pub dropped : Result → Result
-dropped Result.Ok = Result.Ok
-dropped (Result.Err Error.InvalidDevice) = Result.Err Error.InvalidDevice
-dropped (Result.Err Error.CannotProvide) = Result.Err Error.CannotProvide
-dropped (Result.Err Error.CannotConsume) = Result.Err Error.CannotConsume
-dropped (Result.Err (Error.InvalidState m)) = Result.Err (Error.InvalidState OptionMismatch.None)
-dropped (Result.Err Error.InvalidResponse) = Result.Err Error.InvalidResponse
-dropped (Result.Err Error.Busy) = Result.Err Error.Busy
-dropped (Result.Err Error.Timeout) = Result.Err Error.Timeout
-dropped (Result.Err Error.Bus) = Result.Err Error.Bus
-dropped (Result.Err Error.Charger) = Result.Err Error.Charger
-dropped (Result.Err Error.Failed) = Result.Err Error.Failed
+abbrev pub dropped : Result (Unit {0}) Error → Result (Unit {0}) Error
+dropped (Ok tt) = Ok tt
+dropped (Err Error.InvalidDevice) = Err Error.InvalidDevice
+dropped (Err Error.CannotProvide) = Err Error.CannotProvide
+dropped (Err Error.CannotConsume) = Err Error.CannotConsume
+dropped (Err (Error.InvalidState m)) = Err (Error.InvalidState None)
+dropped (Err Error.InvalidResponse) = Err Error.InvalidResponse
+dropped (Err Error.Busy) = Err Error.Busy
+dropped (Err Error.Timeout) = Err Error.Timeout
+dropped (Err Error.Bus) = Err Error.Bus
+dropped (Err Error.Charger) = Err Error.Charger
+dropped (Err Error.Failed) = Err Error.Failed
 
 abbrev pub default_state : State
 default_state =
     record {
       psu_state = PsuState.Detached;
-      consumer_capability = OptionConsumerPowerCapability.None;
-      requested_provider_capability = OptionProviderPowerCapability.None;
+      consumer_capability = None;
+      requested_provider_capability = None;
     }
 
 abbrev pub enter : PsuState → State → State
@@ -149,8 +149,8 @@ abbrev pub clear_caps : State → State
 clear_caps s =
     record {
       psu_state = s.psu_state;
-      consumer_capability = OptionConsumerPowerCapability.None;
-      requested_provider_capability = OptionProviderPowerCapability.None;
+      consumer_capability = None;
+      requested_provider_capability = None;
     }
 
 -- LEA-4: attach, and disconnect below, enter Idle whatever the result
@@ -167,7 +167,7 @@ disconnect_of s clear =
       state = cond clear (clear_caps (enter PsuState.Idle s)) (enter PsuState.Idle s);
     }
 
-abbrev pub update_consumer_of : State → OptionConsumerPowerCapability → Transition
+abbrev pub update_consumer_of : State → Option ConsumerPowerCapability → Transition
 update_consumer_of s c =
     record {
       result = expect_of attached_kinds (kind_of s.psu_state);
@@ -179,9 +179,9 @@ update_consumer_of s c =
     }
 
 -- EDG-9: an equal request is already known: no error in any state
-abbrev pub update_requested_of : State → OptionProviderPowerCapability → Transition
+abbrev pub update_requested_of : State → Option ProviderPowerCapability → Transition
 update_requested_of s p =
-    cond (same_option_provider s.requested_provider_capability p) (record { result = Result.Ok; state = s })
+    cond (same_option_provider s.requested_provider_capability p) (record { result = (Ok tt); state = s })
     (record {
       result = expect_of attached_kinds (kind_of s.psu_state);
       state = record {
@@ -191,16 +191,16 @@ update_requested_of s p =
       };
     })
 
-abbrev pub can_connect_consumer_of : State → Result
+abbrev pub can_connect_consumer_of : State → Result (Unit {0}) Error
 can_connect_consumer_of s = expect_of idle_or_consumer (kind_of s.psu_state)
 
-abbrev pub can_connect_provider_of : State → Result
+abbrev pub can_connect_provider_of : State → Result (Unit {0}) Error
 can_connect_provider_of s = expect_of idle_or_provider (kind_of s.psu_state)
 
 -- `?` after a check: the error leaves the state as it was
-abbrev pub entered : Result → PsuState → State → Transition
-entered Result.Ok p s = record { result = Result.Ok; state = enter p s }
-entered (Result.Err e) p s = record { result = Result.Err e; state = s }
+abbrev pub entered : Result (Unit {0}) Error → PsuState → State → Transition
+entered (Ok tt) p s = record { result = (Ok tt); state = enter p s }
+entered (Err e) p s = record { result = Err e; state = s }
 
 abbrev pub connect_consumer_of : State → ConsumerPowerCapability → Transition
 connect_consumer_of s c = entered (can_connect_consumer_of s) (PsuState.ConnectedConsumer c) s
@@ -208,11 +208,11 @@ connect_consumer_of s c = entered (can_connect_consumer_of s) (PsuState.Connecte
 abbrev pub connect_provider_of : State → ProviderPowerCapability → Transition
 connect_provider_of s c = entered (can_connect_provider_of s) (PsuState.ConnectedProvider c) s
 
-abbrev pub provider_in : PsuState → OptionProviderPowerCapability
-provider_in PsuState.Idle = OptionProviderPowerCapability.None
-provider_in (PsuState.ConnectedProvider c) = OptionProviderPowerCapability.Some c
-provider_in (PsuState.ConnectedConsumer c) = OptionProviderPowerCapability.None
-provider_in PsuState.Detached = OptionProviderPowerCapability.None
+abbrev pub provider_in : PsuState → Option ProviderPowerCapability
+provider_in PsuState.Idle = None
+provider_in (PsuState.ConnectedProvider c) = Some c
+provider_in (PsuState.ConnectedConsumer c) = None
+provider_in PsuState.Detached = None
 
-abbrev pub connected_provider_of : State → OptionProviderPowerCapability
+abbrev pub connected_provider_of : State → Option ProviderPowerCapability
 connected_provider_of s = provider_in s.psu_state

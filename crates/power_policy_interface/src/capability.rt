@@ -1,17 +1,11 @@
 // Power capability definitions and related flags (capability.rs).
-ghost use Rattle.std.specs.Prelude.{◌≡◌, false};
-ghost use Rattle.power_policy_interface.specs.Capability.{max_power_mw, cmp_capability, psu_type_number, psu_type_from, consumer_flags_byte, provider_flags_byte, consumer_flags_from, provider_flags_from, same_capability, same_consumer, same_provider, same_option_provider, is_renegotiation, disconnect_byte, disconnect_from};
+ghost use Rattle.std.specs.Prelude.{◌≡◌, ◌/◌, cond, false, nat_le, None, Some, ok_or};
+ghost use Rattle.power_policy_interface.specs.Capability.{max_power_mw, cmp_capability, psu_type_number, psu_type_from, consumer_flags_byte, provider_flags_byte, consumer_flags_from, provider_flags_from, same_capability, same_consumer, same_provider, same_option_provider, is_renegotiation, disconnect_byte, disconnect_from, reason_byte};
 
-// The result of a comparison (core::cmp::Ordering).
-#[derive(Clone, Copy)]
-pub enum Ordering {
-    Less,
-    Equal,
-    Greater,
-}
+use std::cmp::Ordering;
 
 // Amount of power that a device can provide or consume.
-#[derive(Clone, Copy)]
+#[derive(Clone, Copy, PartialEq, Eq)]
 pub struct PowerCapability {
     // Available voltage in mV.
     pub voltage_mv: u16,
@@ -24,324 +18,202 @@ impl PowerCapability {
     pub fn max_power_mw(self) -> u32
         ensures { result ≡ max_power_mw self }
     {
-        (self.voltage_mv as u32) * (self.current_ma as u32) / 1000
+        self.voltage_mv as u32 * self.current_ma as u32 / 1000
     }
 
-    // Capabilities are ordered by maximum power alone.
+    // Capabilities are ordered by maximum power alone. Ord, whose law is that only equal values are of equal order, has no
+    // such order.
     pub fn cmp(self, other: PowerCapability) -> Ordering
         ensures { result ≡ cmp_capability self other }
     {
-        let a = self.max_power_mw();
-        let b = other.max_power_mw();
-        if a < b {
-            return Ordering::Less;
-        }
-        if a == b {
-            return Ordering::Equal;
-        }
-        Ordering::Greater
-    }
-
-    // Whether two capabilities are equal in both figures.
-    pub fn same(self, other: PowerCapability) -> bool
-        ensures { result ≡ same_capability self other }
-    {
-        if self.voltage_mv != other.voltage_mv {
-            return false;
-        }
-        self.current_ma == other.current_ma
+        self.max_power_mw().cmp(&other.max_power_mw())
     }
 }
 
 // Power capability with consumer flags.
-#[derive(Clone, Copy)]
+#[derive(Clone, Copy, PartialEq, Eq)]
 pub struct ConsumerPowerCapability {
     pub capability: PowerCapability,
     pub flags: ConsumerFlags,
 }
 
-// Option<ConsumerPowerCapability>.
-#[derive(Clone, Copy)]
-pub enum OptionConsumerPowerCapability {
-    None,
-    Some(ConsumerPowerCapability),
-}
+impl From<PowerCapability> for ConsumerPowerCapability {
+    ghost from_gives = { λ capability c. c ≡ record { capability = capability; flags = record { unconstrained_power = false; psu_type = None } } };
 
-impl ConsumerPowerCapability {
     // A capability with default flags.
-    pub fn from(capability: PowerCapability) -> Self
-        ensures { result ≡ record { capability = capability; flags = record { unconstrained_power = false; psu_type = OptionPsuType.None } } }
-    {
+    fn from(capability: PowerCapability) -> Self {
         ConsumerPowerCapability {
             capability,
             flags: ConsumerFlags::default(),
         }
     }
-
-    // Whether two capabilities are equal in every field.
-    pub fn same(self, other: ConsumerPowerCapability) -> bool
-        ensures { result ≡ same_consumer self other }
-    {
-        let a = self.capability;
-        let b = other.capability;
-        if !a.same(b) {
-            return false;
-        }
-        let f = self.flags;
-        let g = other.flags;
-        f.byte() == g.byte()
-    }
 }
 
 // Power capability with provider flags.
-#[derive(Clone, Copy)]
+#[derive(Clone, Copy, PartialEq, Eq)]
 pub struct ProviderPowerCapability {
     pub capability: PowerCapability,
     pub flags: ProviderFlags,
 }
 
-// Option<ProviderPowerCapability>.
-#[derive(Clone, Copy)]
-pub enum OptionProviderPowerCapability {
-    None,
-    Some(ProviderPowerCapability),
-}
+impl From<PowerCapability> for ProviderPowerCapability {
+    ghost from_gives = { λ capability c. c ≡ record { capability = capability; flags = record { psu_type = None } } };
 
-impl ProviderPowerCapability {
     // A capability with default flags.
-    pub fn from(capability: PowerCapability) -> Self
-        ensures { result ≡ record { capability = capability; flags = record { psu_type = OptionPsuType.None } } }
-    {
+    fn from(capability: PowerCapability) -> Self {
         ProviderPowerCapability {
             capability,
             flags: ProviderFlags::default(),
         }
     }
-
-    // Whether two capabilities are equal in every field.
-    pub fn same(self, other: ProviderPowerCapability) -> bool
-        ensures { result ≡ same_provider self other }
-    {
-        let a = self.capability;
-        let b = other.capability;
-        if !a.same(b) {
-            return false;
-        }
-        let p = self.flags;
-        let q = other.flags;
-        p.byte() == q.byte()
-    }
-}
-
-impl OptionProviderPowerCapability {
-    // Whether both are absent, or both present and equal.
-    pub fn same(self, other: OptionProviderPowerCapability) -> bool
-        ensures { result ≡ same_option_provider self other }
-    {
-        match self {
-            OptionProviderPowerCapability::None => match other {
-                OptionProviderPowerCapability::None => true,
-                OptionProviderPowerCapability::Some(_) => false,
-            },
-            OptionProviderPowerCapability::Some(a) => match other {
-                OptionProviderPowerCapability::None => false,
-                OptionProviderPowerCapability::Some(b) => a.same(b),
-            },
-        }
-    }
 }
 
 // Combined power capability with flags.
-#[derive(Clone, Copy)]
+#[derive(Clone, Copy, PartialEq, Eq)]
 pub enum PowerCapabilityFlags {
     Consumer(ConsumerPowerCapability),
     Provider(ProviderPowerCapability),
 }
 
 // PSU type.
-#[derive(Clone, Copy)]
+#[derive(Clone, Copy, PartialEq, Eq)]
 pub enum PsuType {
     // Type-C port.
-    TypeC,
+    TypeC = 1,
     // DC barrel jack.
-    DcJack,
+    DcJack = 2,
     // Application defined types.
-    Custom0,
-    Custom1,
-    Custom2,
-    Custom3,
+    Custom0 = 3,
+    Custom1 = 4,
+    Custom2 = 5,
+    Custom3 = 6,
 }
 
-// Option<PsuType>.
-#[derive(Clone, Copy)]
-pub enum OptionPsuType {
-    None,
-    Some(PsuType),
-}
+impl From<PsuType> for u8 {
+    ghost from_gives = { λ t n. n ≡ psu_type_number (Some t) };
 
-impl PsuType {
     // The number in a flag byte, from 1.
-    pub fn number(self) -> u8
-        ensures { result ≡ psu_type_number (OptionPsuType.Some self) }
-    {
-        match self {
-            PsuType::TypeC => 1,
-            PsuType::DcJack => 2,
-            PsuType::Custom0 => 3,
-            PsuType::Custom1 => 4,
-            PsuType::Custom2 => 5,
-            PsuType::Custom3 => 6,
+    fn from(t: PsuType) -> u8 {
+        t as u8
+    }
+}
+
+// A byte that no value is written as.
+#[derive(Clone, Copy, PartialEq, Eq)]
+pub struct UnknownByte(pub u8);
+
+impl TryFrom<u8> for PsuType {
+    type Error = UnknownByte;
+
+    ghost try_from_gives = { λ n r. r ≡ ok_or (psu_type_from n) (record { 0 = n }) };
+
+    // The type of a number; 0 is no type's.
+    fn try_from(n: u8) -> Result<Self, UnknownByte> {
+        match n {
+            1 => Ok(PsuType::TypeC),
+            2 => Ok(PsuType::DcJack),
+            3 => Ok(PsuType::Custom0),
+            4 => Ok(PsuType::Custom1),
+            5 => Ok(PsuType::Custom2),
+            6 => Ok(PsuType::Custom3),
+            _ => Err(UnknownByte(n)),
         }
     }
 }
 
-impl OptionPsuType {
-    // The number in a flag byte, 0 for none.
-    pub fn number(self) -> u8
-        ensures { result ≡ psu_type_number self }
-    {
-        match self {
-            OptionPsuType::None => 0,
-            OptionPsuType::Some(t) => t.number(),
-        }
-    }
+// The number in a flag byte, 0 for none.
+fn number_of(t: Option<PsuType>) -> u8
+    ensures { result ≡ psu_type_number t }
+{
+    t.map_or(0, |t| u8::from(t))
+}
 
-    // The type numbered n, none where no type has that number.
-    fn from_number(n: u8) -> OptionPsuType
-        ensures { result ≡ psu_type_from n }
-    {
-        match n {
-            0 => OptionPsuType::None,
-            1 => OptionPsuType::Some(PsuType::TypeC),
-            2 => OptionPsuType::Some(PsuType::DcJack),
-            3 => OptionPsuType::Some(PsuType::Custom0),
-            4 => OptionPsuType::Some(PsuType::Custom1),
-            5 => OptionPsuType::Some(PsuType::Custom2),
-            6 => OptionPsuType::Some(PsuType::Custom3),
-            _ => OptionPsuType::None,
-        }
+// The type in a flag byte, bit 0 aside; refused for a number of no type.
+fn type_in(b: u8) -> Result<Option<PsuType>, UnknownByte>
+    ensures { result ≡ cond (nat_le (b / 2) 6) (Ok (psu_type_from (b / 2))) (Err (record { 0 = b })) }
+{
+    match b >> 1 {
+        0 => Ok(None),
+        n => PsuType::try_from(n).map(Some).map_err(|_| UnknownByte(b)),
     }
 }
 
 // Consumer flags.
-#[derive(Clone, Copy)]
+#[derive(Clone, Copy, PartialEq, Eq, Default)]
 pub struct ConsumerFlags {
     // The supply is something like an outlet and not a limited source like a battery.
     pub unconstrained_power: bool,
-    pub psu_type: OptionPsuType,
+    pub psu_type: Option<PsuType>,
 }
 
-// What reading a flag byte as consumer flags finds.
-#[derive(Clone, Copy)]
-pub enum OptionConsumerFlags {
-    None,
-    Some(ConsumerFlags),
-}
-
-impl ConsumerFlags {
-    pub fn default() -> Self
-        ensures { result ≡ record { unconstrained_power = false; psu_type = OptionPsuType.None } }
-    {
-        ConsumerFlags {
-            unconstrained_power: false,
-            psu_type: OptionPsuType::None,
-        }
-    }
+impl From<ConsumerFlags> for u8 {
+    ghost from_gives = { λ f b. b ≡ consumer_flags_byte f };
 
     // The flag byte: bit 0 unconstrained_power, bits 1 to 3 the PSU type.
-    pub fn byte(self) -> u8
-        ensures { result ≡ consumer_flags_byte self }
-    {
-        let t = self.psu_type;
-        let n = t.number();
-        n << 1 | (self.unconstrained_power as u8)
+    fn from(f: ConsumerFlags) -> u8 {
+        u8::from(f.unconstrained_power) | number_of(f.psu_type) << 1
     }
+}
 
-    // The flags of a byte, none for a byte of no flags.
-    pub fn from_byte(b: u8) -> OptionConsumerFlags
-        ensures { result ≡ consumer_flags_from b }
-    {
-        let n = b >> 1;
-        if 6 < n {
-            return OptionConsumerFlags::None;
-        }
-        let t = OptionPsuType::from_number(n);
-        OptionConsumerFlags::Some(ConsumerFlags {
+impl TryFrom<u8> for ConsumerFlags {
+    type Error = UnknownByte;
+
+    ghost try_from_gives = { λ b r. r ≡ ok_or (consumer_flags_from b) (record { 0 = b }) };
+
+    // The flags of a byte; refused for a byte of no flags.
+    fn try_from(b: u8) -> Result<Self, UnknownByte> {
+        Ok(ConsumerFlags {
             unconstrained_power: b & 1 == 1,
-            psu_type: t,
+            psu_type: type_in(b)?,
         })
     }
 }
 
 // Provider flags.
-#[derive(Clone, Copy)]
+#[derive(Clone, Copy, PartialEq, Eq, Default)]
 pub struct ProviderFlags {
-    pub psu_type: OptionPsuType,
+    pub psu_type: Option<PsuType>,
 }
 
-// What reading a flag byte as provider flags finds.
-#[derive(Clone, Copy)]
-pub enum OptionProviderFlags {
-    None,
-    Some(ProviderFlags),
-}
-
-impl ProviderFlags {
-    pub fn default() -> Self
-        ensures { result ≡ record { psu_type = OptionPsuType.None } }
-    {
-        ProviderFlags {
-            psu_type: OptionPsuType::None,
-        }
-    }
+impl From<ProviderFlags> for u8 {
+    ghost from_gives = { λ f b. b ≡ provider_flags_byte f };
 
     // The flag byte: bits 1 to 3 the PSU type.
-    pub fn byte(self) -> u8
-        ensures { result ≡ provider_flags_byte self }
-    {
-        let t = self.psu_type;
-        let number = t.number();
-        number << 1
+    fn from(f: ProviderFlags) -> u8 {
+        number_of(f.psu_type) << 1
     }
+}
 
-    // The flags of a byte, none for a byte of no flags: bit 0 is clear.
-    pub fn from_byte(b: u8) -> OptionProviderFlags
-        ensures { result ≡ provider_flags_from b }
-    {
+impl TryFrom<u8> for ProviderFlags {
+    type Error = UnknownByte;
+
+    ghost try_from_gives = { λ b r. r ≡ ok_or (provider_flags_from b) (record { 0 = b }) };
+
+    // The flags of a byte; refused for a byte of no flags: bit 0 is clear.
+    fn try_from(b: u8) -> Result<Self, UnknownByte> {
         if b & 1 == 1 {
-            return OptionProviderFlags::None;
+            return Err(UnknownByte(b));
         }
-        let n = b >> 1;
-        if 6 < n {
-            return OptionProviderFlags::None;
-        }
-        let t = OptionPsuType::from_number(n);
-        OptionProviderFlags::Some(ProviderFlags { psu_type: t })
+        let psu_type = type_in(b)?;
+        Ok(ProviderFlags { psu_type })
     }
 }
 
 // Why a consumer is disconnected.
-#[derive(Clone, Copy)]
+#[derive(Clone, Copy, PartialEq, Eq)]
 pub enum DisconnectReason {
     // The device has been physically detached.
-    Detached,
+    Detached = 1,
     // Switching to a different PSU.
-    Switching,
+    Switching = 2,
     // Renegotiation triggered by the device.
-    AutoRenegotiation,
+    AutoRenegotiation = 3,
     // Renegotiation triggered by code.
-    ManualRenegotiation,
+    ManualRenegotiation = 4,
     // The device has changed its role.
-    RoleSwap,
+    RoleSwap = 5,
     // The device experienced a reset.
-    Reset,
-}
-
-// Option<DisconnectReason>.
-#[derive(Clone, Copy)]
-pub enum OptionDisconnectReason {
-    None,
-    Some(DisconnectReason),
+    Reset = 6,
 }
 
 impl DisconnectReason {
@@ -349,79 +221,55 @@ impl DisconnectReason {
     pub fn is_renegotiation(self) -> bool
         ensures { result ≡ is_renegotiation self }
     {
-        match self {
-            DisconnectReason::AutoRenegotiation => true,
-            DisconnectReason::ManualRenegotiation => true,
-            DisconnectReason::Detached => false,
-            DisconnectReason::Switching => false,
-            DisconnectReason::RoleSwap => false,
-            DisconnectReason::Reset => false,
-        }
+        matches!(
+            self,
+            DisconnectReason::AutoRenegotiation | DisconnectReason::ManualRenegotiation
+        )
     }
+}
+
+impl From<DisconnectReason> for u8 {
+    ghost from_gives = { λ r b. b ≡ reason_byte (Some r) };
 
     // The byte of a reason, from 1 in the order as written.
-    pub fn byte(self) -> u8
-        ensures { result ≡ disconnect_byte (record { reason = OptionDisconnectReason.Some self }) }
-    {
-        match self {
-            DisconnectReason::Detached => 1,
-            DisconnectReason::Switching => 2,
-            DisconnectReason::AutoRenegotiation => 3,
-            DisconnectReason::ManualRenegotiation => 4,
-            DisconnectReason::RoleSwap => 5,
-            DisconnectReason::Reset => 6,
-        }
+    fn from(r: DisconnectReason) -> u8 {
+        r as u8
     }
 }
 
 // Disconnection flags.
-#[derive(Clone, Copy)]
+#[derive(Clone, Copy, PartialEq, Eq, Default)]
 pub struct DisconnectFlags {
     // Reason for the disconnect, if given.
-    pub reason: OptionDisconnectReason,
+    pub reason: Option<DisconnectReason>,
 }
 
-// What reading a reason byte finds.
-#[derive(Clone, Copy)]
-pub enum OptionDisconnectFlags {
-    None,
-    Some(DisconnectFlags),
-}
-
-impl DisconnectFlags {
-    pub fn default() -> Self
-        ensures { result ≡ record { reason = OptionDisconnectReason.None } }
-    {
-        DisconnectFlags {
-            reason: OptionDisconnectReason::None,
-        }
-    }
+impl From<DisconnectFlags> for u8 {
+    ghost from_gives = { λ f b. b ≡ disconnect_byte f };
 
     // The reason byte: 0 for no reason.
-    pub fn byte(self) -> u8
-        ensures { result ≡ disconnect_byte self }
-    {
-        let reason = self.reason;
-        match reason {
-            OptionDisconnectReason::None => 0,
-            OptionDisconnectReason::Some(r) => r.byte(),
-        }
+    fn from(f: DisconnectFlags) -> u8 {
+        f.reason.map_or(0, |r| u8::from(r))
     }
+}
 
-    // The reason of a byte, none for a byte above 6.
-    pub fn from_byte(b: u8) -> OptionDisconnectFlags
-        ensures { result ≡ disconnect_from b }
-    {
+impl TryFrom<u8> for DisconnectFlags {
+    type Error = UnknownByte;
+
+    ghost try_from_gives = { λ b r. r ≡ ok_or (disconnect_from b) (record { 0 = b }) };
+
+    // The reason of a byte; refused for a byte above 6.
+    fn try_from(b: u8) -> Result<Self, UnknownByte> {
         let reason = match b {
-            0 => OptionDisconnectReason::None,
-            1 => OptionDisconnectReason::Some(DisconnectReason::Detached),
-            2 => OptionDisconnectReason::Some(DisconnectReason::Switching),
-            3 => OptionDisconnectReason::Some(DisconnectReason::AutoRenegotiation),
-            4 => OptionDisconnectReason::Some(DisconnectReason::ManualRenegotiation),
-            5 => OptionDisconnectReason::Some(DisconnectReason::RoleSwap),
-            6 => OptionDisconnectReason::Some(DisconnectReason::Reset),
-            _ => return OptionDisconnectFlags::None,
+            0 => None,
+            1 => Some(DisconnectReason::Detached),
+            2 => Some(DisconnectReason::Switching),
+            3 => Some(DisconnectReason::AutoRenegotiation),
+            4 => Some(DisconnectReason::ManualRenegotiation),
+            5 => Some(DisconnectReason::RoleSwap),
+            6 => Some(DisconnectReason::Reset),
+            _ => return Err(UnknownByte(b)),
         };
-        OptionDisconnectFlags::Some(DisconnectFlags { reason })
+        Ok(DisconnectFlags { reason })
     }
 }

@@ -1,19 +1,20 @@
-// Charger events and state machine (charger/mod.rs). A record goes in by value and comes back by value.
+// Charger events and state machine (charger/mod.rs).
 pub mod event;
 
+ghost use Rattle.power_policy_interface.specs.declared.psu.Error.{Error};
 ghost use Rattle.std.specs.Prelude.{◌≡◌};
-ghost use Rattle.power_policy_interface.specs.Charger.{internal_number, default_state, initialized_of, psu_state_change_of, timeout_of, ready_success_of, ready_failure_of, policy_attach_of, policy_detach_of, is_unpowered, powered_of};
+ghost use Rattle.power_policy_interface.specs.Charger.{internal_number, default_state, initialized_of, psu_state_change_of, timeout_of, ready_success_of, ready_failure_of, policy_attach_of, policy_detach_of, is_unpowered, substate_of};
 
-use crate::capability::{ConsumerPowerCapability, OptionConsumerPowerCapability};
+use crate::capability::ConsumerPowerCapability;
 use crate::charger::event::PsuState;
 use crate::psu::Error;
 
 // Charger device ID.
-#[derive(Clone, Copy)]
+#[derive(Clone, Copy, PartialEq, Eq)]
 pub struct ChargerId(pub u8);
 
 // Charger state errors.
-#[derive(Clone, Copy)]
+#[derive(Clone, Copy, PartialEq, Eq)]
 pub enum ChargerError {
     // Charger received command in an invalid state.
     InvalidState(InternalState),
@@ -25,24 +26,17 @@ pub enum ChargerError {
     UnknownEvent,
 }
 
-impl ChargerError {
-    // The error as the service returns it (From<ChargerError> for psu::Error). What it carries is dropped.
-    pub fn error(self) -> Error
-        ensures { result ≡ Error.Charger }
-    {
+impl From<ChargerError> for Error {
+    ghost from_gives = { λ e error. error ≡ Error.Charger };
+
+    // The error as the service returns it. What it carries is dropped.
+    fn from(_e: ChargerError) -> Error {
         Error::Charger
     }
 }
 
-// Result<(), ChargerError>.
-#[derive(Clone, Copy)]
-pub enum Result {
-    Ok,
-    Err(ChargerError),
-}
-
 // Powered state substates.
-#[derive(Clone, Copy)]
+#[derive(Clone, Copy, PartialEq, Eq)]
 pub enum PoweredSubstate {
     // Device is initializing.
     Init,
@@ -53,7 +47,7 @@ pub enum PoweredSubstate {
 }
 
 // Current state of the charger.
-#[derive(Clone, Copy)]
+#[derive(Clone, Copy, PartialEq, Eq)]
 pub enum InternalState {
     // Device is unpowered.
     Unpowered,
@@ -61,169 +55,121 @@ pub enum InternalState {
     Powered(PoweredSubstate),
 }
 
-impl InternalState {
+impl From<InternalState> for u8 {
+    ghost from_gives = { λ s n. n ≡ internal_number s };
+
     // The state byte of a record.
-    pub fn number(self) -> u8
-        ensures { result ≡ internal_number self }
-    {
-        match self {
+    fn from(s: InternalState) -> u8 {
+        match s {
             InternalState::Unpowered => 0,
-            InternalState::Powered(s) => match s {
-                PoweredSubstate::Init => 1,
-                PoweredSubstate::PsuAttached => 2,
-                PoweredSubstate::PsuDetached => 3,
-            },
+            InternalState::Powered(PoweredSubstate::Init) => 1,
+            InternalState::Powered(PoweredSubstate::PsuAttached) => 2,
+            InternalState::Powered(PoweredSubstate::PsuDetached) => 3,
         }
     }
 }
 
 // State and cached capability of a charger.
-#[derive(Clone, Copy)]
+#[derive(Clone, Copy, PartialEq, Eq)]
 pub struct State {
     // Charger device state.
     pub state: InternalState,
     // Current charger capability.
-    pub capability: OptionConsumerPowerCapability,
+    pub capability: Option<ConsumerPowerCapability>,
 }
 
-// What a transition returns, and the record after it.
-#[derive(Clone, Copy)]
-pub struct Transition {
-    pub result: Result,
-    pub state: State,
+impl Default for State {
+    ghost is_default = { λ s. s ≡ default_state };
+
+    fn default() -> Self {
+        State {
+            state: InternalState::Unpowered,
+            capability: None,
+        }
+    }
 }
 
 impl State {
-    pub fn default() -> Self
-        ensures { result ≡ default_state }
-    {
-        State {
-            state: InternalState::Unpowered,
-            capability: OptionConsumerPowerCapability::None,
-        }
-    }
-
     // Initialization completed: from Init to PsuAttached or PsuDetached; an error in any other state.
-    pub fn on_initialized(self, psu_state: PsuState) -> Transition
-        ensures { result ≡ initialized_of self psu_state }
+    pub fn on_initialized(&mut self, psu_state: PsuState) -> Result<(), ChargerError>
+        ensures result { result ≡ (initialized_of self.old psu_state).result }
+        ensures state { self.new ≡ (initialized_of self.old psu_state).state }
     {
-        let state = self.state;
-        match state {
-            InternalState::Unpowered => self.invalid(),
-            InternalState::Powered(s) => match s {
-                PoweredSubstate::Init => self.powered(psu_state),
-                PoweredSubstate::PsuAttached => self.invalid(),
-                PoweredSubstate::PsuDetached => self.invalid(),
-            },
+        match self.state {
+            InternalState::Powered(PoweredSubstate::Init) => {
+                self.state = powered(psu_state);
+                Ok(())
+            }
+            other => Err(ChargerError::InvalidState(other)),
         }
     }
 
     // The PSU state changed: between PsuAttached and PsuDetached; an error in any other state.
-    pub fn on_psu_state_change(self, psu_state: PsuState) -> Transition
-        ensures { result ≡ psu_state_change_of self psu_state }
+    pub fn on_psu_state_change(&mut self, psu_state: PsuState) -> Result<(), ChargerError>
+        ensures result { result ≡ (psu_state_change_of self.old psu_state).result }
+        ensures state { self.new ≡ (psu_state_change_of self.old psu_state).state }
     {
-        let state = self.state;
-        match state {
-            InternalState::Unpowered => self.invalid(),
-            InternalState::Powered(s) => match s {
-                PoweredSubstate::Init => self.invalid(),
-                PoweredSubstate::PsuAttached => self.powered(psu_state),
-                PoweredSubstate::PsuDetached => self.powered(psu_state),
-            },
-        }
-    }
-
-    // The error of a transition that the state does not allow; the record stays.
-    fn invalid(self) -> Transition
-        ensures { result ≡ record { result = Result.Err (ChargerError.InvalidState self.state); state = self } }
-    {
-        let state = self.state;
-        Transition {
-            result: Result::Err(ChargerError::InvalidState(state)),
-            state: self,
-        }
-    }
-
-    // The record powered, with the PSU in the given state.
-    fn powered(self, psu_state: PsuState) -> Transition
-        ensures { result ≡ powered_of self psu_state }
-    {
-        let capability = self.capability;
-        let state = match psu_state {
-            PsuState::Attached => InternalState::Powered(PoweredSubstate::PsuAttached),
-            PsuState::Detached => InternalState::Powered(PoweredSubstate::PsuDetached),
-        };
-        Transition {
-            result: Result::Ok,
-            state: State { state, capability },
+        match self.state {
+            InternalState::Powered(PoweredSubstate::PsuAttached | PoweredSubstate::PsuDetached) => {
+                self.state = powered(psu_state);
+                Ok(())
+            }
+            other => Err(ChargerError::InvalidState(other)),
         }
     }
 
     // Communication timed out: unpowered, and the cached capability cleared.
-    pub fn on_timeout(self) -> State
-        ensures { result ≡ timeout_of self }
+    pub fn on_timeout(&mut self)
+        ensures { self.new ≡ timeout_of self.old }
     {
-        State {
-            state: InternalState::Unpowered,
-            capability: OptionConsumerPowerCapability::None,
-        }
+        *self = State::default();
     }
 
     // The check-ready succeeded: from unpowered to Init with the capability cleared; already powered, nothing changes.
-    pub fn on_ready_success(self) -> State
-        ensures { result ≡ ready_success_of self }
+    pub fn on_ready_success(&mut self)
+        ensures { self.new ≡ ready_success_of self.old }
     {
-        let state = self.state;
-        match state {
-            InternalState::Unpowered => State {
-                state: InternalState::Powered(PoweredSubstate::Init),
-                capability: OptionConsumerPowerCapability::None,
-            },
-            InternalState::Powered(_) => self,
+        if self.is_unpowered() {
+            self.state = InternalState::Powered(PoweredSubstate::Init);
+            self.capability = None;
         }
     }
 
     // The check-ready failed: unpowered, and the capability is kept for diagnostics.
-    pub fn on_ready_failure(self) -> State
-        ensures { result ≡ ready_failure_of self }
+    pub fn on_ready_failure(&mut self)
+        ensures { self.new ≡ ready_failure_of self.old }
     {
-        let capability = self.capability;
-        State {
-            state: InternalState::Unpowered,
-            capability,
-        }
+        self.state = InternalState::Unpowered;
     }
 
     // Cache a new capability from a policy attach. The state stays.
-    pub fn on_policy_attach(self, capability: ConsumerPowerCapability) -> State
-        ensures { result ≡ policy_attach_of self capability }
+    pub fn on_policy_attach(&mut self, capability: ConsumerPowerCapability)
+        ensures { self.new ≡ policy_attach_of self.old capability }
     {
-        let state = self.state;
-        State {
-            state,
-            capability: OptionConsumerPowerCapability::Some(capability),
-        }
+        self.capability = Some(capability);
     }
 
     // Clear the cached capability after a policy detach. The state stays.
-    pub fn on_policy_detach(self) -> State
-        ensures { result ≡ policy_detach_of self }
+    pub fn on_policy_detach(&mut self)
+        ensures { self.new ≡ policy_detach_of self.old }
     {
-        let state = self.state;
-        State {
-            state,
-            capability: OptionConsumerPowerCapability::None,
-        }
+        self.capability = None;
     }
 
     // Whether the charger is unpowered.
-    pub fn is_unpowered(self) -> bool
-        ensures { result ≡ is_unpowered self.state }
+    pub fn is_unpowered(&self) -> bool
+        ensures { result ≡ is_unpowered self.now.state }
     {
-        let state = self.state;
-        match state {
-            InternalState::Unpowered => true,
-            InternalState::Powered(_) => false,
-        }
+        self.state == InternalState::Unpowered
     }
+}
+
+// Powered, with the PSU in the given state.
+fn powered(psu_state: PsuState) -> InternalState
+    ensures { result ≡ InternalState.Powered (substate_of psu_state) }
+{
+    InternalState::Powered(match psu_state {
+        PsuState::Attached => PoweredSubstate::PsuAttached,
+        PsuState::Detached => PoweredSubstate::PsuDetached,
+    })
 }

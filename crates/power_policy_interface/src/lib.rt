@@ -6,4 +6,5 @@ pub mod capability;
 pub mod charger;
 pub mod limits;
 pub mod psu;
+pub mod refusal;
 pub mod service;

@@ -1,73 +1,62 @@
-// Device struct and methods (psu/mod.rs). A record goes in by value and comes back by value.
+// Device struct and methods (psu/mod.rs).
 pub mod event;
 
 ghost use Rattle.std.specs.Prelude.{◌≡◌};
 ghost use Rattle.power_policy_interface.specs.Psu.{kind_number, kind_of, with_kind, has_kind, detached_kind, idle_or_consumer, idle_or_provider, attached_kinds, expect_of, answer_byte, error_byte, mismatch_of, expected_byte, actual_byte, answer_from, default_state, attach_of, detach_of, disconnect_of, update_consumer_of, update_requested_of, can_connect_consumer_of, connect_consumer_of, can_connect_provider_of, connect_provider_of, connected_provider_of};
 
-use crate::capability::{
-    ConsumerPowerCapability, OptionConsumerPowerCapability, OptionProviderPowerCapability,
-    ProviderPowerCapability,
-};
+use crate::capability::{ConsumerPowerCapability, ProviderPowerCapability};
 
 // Most basic device states.
-#[derive(Clone, Copy)]
+#[derive(Clone, Copy, PartialEq, Eq)]
 pub enum StateKind {
     // No device attached.
-    Detached,
+    Detached = 0,
     // Device is attached.
-    Idle,
+    Idle = 1,
     // Device is actively providing power, USB PD source mode.
-    ConnectedProvider,
+    ConnectedProvider = 2,
     // Device is actively consuming power, USB PD sink mode.
-    ConnectedConsumer,
+    ConnectedConsumer = 3,
 }
 
-impl StateKind {
+impl From<StateKind> for u8 {
+    ghost from_gives = { λ k n. n ≡ kind_number k };
+
     // The bit of a kind in a set of kinds, and the state byte of a record.
-    pub fn number(self) -> u8
-        ensures { result ≡ kind_number self }
-    {
-        match self {
-            StateKind::Detached => 0,
-            StateKind::Idle => 1,
-            StateKind::ConnectedProvider => 2,
-            StateKind::ConnectedConsumer => 3,
-        }
+    fn from(k: StateKind) -> u8 {
+        k as u8
     }
 }
 
-// A set of kinds is a byte with one bit per kind. The set with a kind added.
-pub fn with(set: u8, kind: StateKind) -> u8
-    ensures { result ≡ with_kind set kind }
-{
-    let n = kind.number();
-    set | 1 << n
-}
+// A set of kinds: a byte with one bit per kind.
+#[derive(Clone, Copy, PartialEq, Eq)]
+pub struct Kinds(pub u8);
 
-// Whether a set has a kind.
-pub fn has(set: u8, kind: StateKind) -> bool
-    ensures { result ≡ has_kind set kind }
-{
-    let n = kind.number();
-    set >> n & 1 == 1
+impl Kinds {
+    // The set with a kind added.
+    pub fn with(self, kind: StateKind) -> Self
+        ensures { result.0 ≡ with_kind self.0 kind }
+    {
+        Kinds(self.0 | 1 << u8::from(kind))
+    }
+
+    // Whether the set has a kind.
+    pub fn has(self, kind: StateKind) -> bool
+        ensures { result ≡ has_kind self.0 kind }
+    {
+        self.0 >> u8::from(kind) & 1 == 1
+    }
 }
 
 // What an InvalidState of the transitions carries: the set of expected kinds and the actual one.
-#[derive(Clone, Copy)]
+#[derive(Clone, Copy, PartialEq, Eq)]
 pub struct Mismatch {
     pub expected: u8,
     pub actual: StateKind,
 }
 
-// Option<Mismatch>: a device's own InvalidState comes as its byte alone, and has none.
-#[derive(Clone, Copy)]
-pub enum OptionMismatch {
-    None,
-    Some(Mismatch),
-}
-
 // Error type. What a variant carries in the Rust is dropped, but for InvalidState's.
-#[derive(Clone, Copy)]
+#[derive(Clone, Copy, PartialEq, Eq)]
 pub enum Error {
     // The requested device does not exist.
     InvalidDevice,
@@ -76,7 +65,7 @@ pub enum Error {
     // The consume request was denied.
     CannotConsume,
     // The device is not in the correct state.
-    InvalidState(OptionMismatch),
+    InvalidState(Option<Mismatch>),
     // Invalid response.
     InvalidResponse,
     // Busy, the device cannot respond to the request at this time.
@@ -91,12 +80,12 @@ pub enum Error {
     Failed,
 }
 
-impl Error {
+impl From<Error> for u8 {
+    ghost from_gives = { λ e b. b ≡ error_byte e };
+
     // The answer byte of an error, from 1 in the order as written.
-    pub fn byte(self) -> u8
-        ensures { result ≡ error_byte self }
-    {
-        match self {
+    fn from(e: Error) -> u8 {
+        match e {
             Error::InvalidDevice => 1,
             Error::CannotProvide => 2,
             Error::CannotConsume => 3,
@@ -109,138 +98,110 @@ impl Error {
             Error::Failed => 10,
         }
     }
+}
 
+impl Error {
     // The states that an InvalidState of a ported transition carries.
-    pub fn mismatch(self) -> OptionMismatch
+    pub fn mismatch(self) -> Option<Mismatch>
         ensures { result ≡ mismatch_of self }
     {
         match self {
-            Error::InvalidDevice => OptionMismatch::None,
-            Error::CannotProvide => OptionMismatch::None,
-            Error::CannotConsume => OptionMismatch::None,
             Error::InvalidState(m) => m,
-            Error::InvalidResponse => OptionMismatch::None,
-            Error::Busy => OptionMismatch::None,
-            Error::Timeout => OptionMismatch::None,
-            Error::Bus => OptionMismatch::None,
-            Error::Charger => OptionMismatch::None,
-            Error::Failed => OptionMismatch::None,
+            _ => None,
         }
     }
 }
 
-impl OptionMismatch {
-    // The expected states as a byte, 0 for none.
-    pub fn expected(self) -> u8
-        ensures { result ≡ expected_byte self }
-    {
-        match self {
-            OptionMismatch::None => 0,
-            OptionMismatch::Some(m) => m.expected,
-        }
-    }
+// The expected states as a byte, 0 for none.
+pub fn expected(m: Option<Mismatch>) -> u8
+    ensures { result ≡ expected_byte m }
+{
+    m.map_or(0, |m| m.expected)
+}
 
-    // The actual state as a byte, 0 for none.
-    pub fn actual(self) -> u8
-        ensures { result ≡ actual_byte self }
-    {
-        match self {
-            OptionMismatch::None => 0,
-            OptionMismatch::Some(m) => {
-                let kind = m.actual;
-                kind.number()
-            }
-        }
+// The actual state as a byte, 0 for none.
+pub fn actual(m: Option<Mismatch>) -> u8
+    ensures { result ≡ actual_byte m }
+{
+    m.map_or(0, |m| u8::from(m.actual))
+}
+
+// The answer byte: 0 done, else the error's.
+pub fn answer_byte(answer: Result<(), Error>) -> u8
+    ensures { result ≡ answer_byte answer }
+{
+    match answer {
+        Ok(()) => 0,
+        Err(e) => u8::from(e),
     }
 }
 
-// Result<(), Error>.
-#[derive(Clone, Copy)]
-pub enum Result {
-    Ok,
-    Err(Error),
-}
-
-// What reading an answer byte finds.
-#[derive(Clone, Copy)]
-pub enum OptionResult {
-    None,
-    Some(Result),
-}
-
-impl Result {
-    // The answer byte: 0 done, else the error's.
-    pub fn byte(self) -> u8
-        ensures { result ≡ answer_byte self }
-    {
-        match self {
-            Result::Ok => 0,
-            Result::Err(e) => e.byte(),
-        }
-    }
-
-    // The answer of a byte, none for a byte above 10.
-    pub fn from_byte(b: u8) -> OptionResult
-        ensures { result ≡ answer_from b }
-    {
-        let e = match b {
-            0 => return OptionResult::Some(Result::Ok),
-            1 => Error::InvalidDevice,
-            2 => Error::CannotProvide,
-            3 => Error::CannotConsume,
-            4 => Error::InvalidState(OptionMismatch::None),
-            5 => Error::InvalidResponse,
-            6 => Error::Busy,
-            7 => Error::Timeout,
-            8 => Error::Bus,
-            9 => Error::Charger,
-            10 => Error::Failed,
-            _ => return OptionResult::None,
-        };
-        OptionResult::Some(Result::Err(e))
-    }
+// The answer of a byte, none for a byte above 10.
+pub fn answer_from(b: u8) -> Option<Result<(), Error>>
+    ensures { result ≡ answer_from b }
+{
+    let e = match b {
+        0 => return Some(Ok(())),
+        1 => Error::InvalidDevice,
+        2 => Error::CannotProvide,
+        3 => Error::CannotConsume,
+        4 => Error::InvalidState(None),
+        5 => Error::InvalidResponse,
+        6 => Error::Busy,
+        7 => Error::Timeout,
+        8 => Error::Bus,
+        9 => Error::Charger,
+        10 => Error::Failed,
+        _ => return None,
+    };
+    Some(Err(e))
 }
 
 // Ok where the actual kind is one of the expected, else the error that says both.
-fn expect(expected: u8, actual: StateKind) -> Result
-    ensures { result ≡ expect_of expected actual }
+fn expect(expected: Kinds, actual: StateKind) -> Result<(), Error>
+    ensures { result ≡ expect_of expected.0 actual }
 {
-    if has(expected, actual) {
-        Result::Ok
+    if expected.has(actual) {
+        Ok(())
     } else {
-        Result::Err(Error::InvalidState(OptionMismatch::Some(Mismatch { expected, actual })))
+        let mismatch = Mismatch {
+            expected: expected.0,
+            actual,
+        };
+        Err(Error::InvalidState(Some(mismatch)))
     }
 }
 
-fn detached() -> u8
-    ensures { result ≡ detached_kind }
+fn detached() -> Kinds
+    ensures { result.0 ≡ detached_kind }
 {
-    with(0, StateKind::Detached)
+    Kinds(0).with(StateKind::Detached)
 }
 
-fn idle_or_consumer() -> u8
-    ensures { result ≡ idle_or_consumer }
+fn idle_or_consumer() -> Kinds
+    ensures { result.0 ≡ idle_or_consumer }
 {
-    with(with(0, StateKind::Idle), StateKind::ConnectedConsumer)
+    Kinds(0)
+        .with(StateKind::Idle)
+        .with(StateKind::ConnectedConsumer)
 }
 
-fn idle_or_provider() -> u8
-    ensures { result ≡ idle_or_provider }
+fn idle_or_provider() -> Kinds
+    ensures { result.0 ≡ idle_or_provider }
 {
-    with(with(0, StateKind::Idle), StateKind::ConnectedProvider)
+    Kinds(0)
+        .with(StateKind::Idle)
+        .with(StateKind::ConnectedProvider)
 }
 
-fn attached() -> u8
-    ensures { result ≡ attached_kinds }
+fn attached() -> Kinds
+    ensures { result.0 ≡ attached_kinds }
 {
-    with(
-        with(with(0, StateKind::Idle), StateKind::ConnectedConsumer),
-        StateKind::ConnectedProvider,
-    )
+    idle_or_consumer().with(StateKind::ConnectedProvider)
 }
 
 // Current state of the power device.
-#[derive(Clone, Copy)]
+#[derive(Clone, Copy, PartialEq, Eq)]
 pub enum PsuState {
     // Device is attached, but is not currently providing or consuming power.
     Idle,
@@ -268,199 +229,128 @@ impl PsuState {
 
 // Per-device state for the power policy. The transitions always enter the desired state, and some still return an error: the
 // device that drives them is the source of truth.
-#[derive(Clone, Copy)]
+#[derive(Clone, Copy, PartialEq, Eq)]
 pub struct State {
     // Current state of the device.
     pub psu_state: PsuState,
     // Current consumer capability.
-    pub consumer_capability: OptionConsumerPowerCapability,
+    pub consumer_capability: Option<ConsumerPowerCapability>,
     // Current requested provider capability.
-    pub requested_provider_capability: OptionProviderPowerCapability,
+    pub requested_provider_capability: Option<ProviderPowerCapability>,
 }
 
-// What a transition returns, and the record after it.
-#[derive(Clone, Copy)]
-pub struct Transition {
-    pub result: Result,
-    pub state: State,
+impl Default for State {
+    ghost is_default = { λ s. s ≡ default_state };
+
+    fn default() -> Self {
+        State {
+            psu_state: PsuState::Detached,
+            consumer_capability: None,
+            requested_provider_capability: None,
+        }
+    }
 }
 
 impl State {
-    pub fn default() -> Self
-        ensures { result ≡ default_state }
-    {
-        State {
-            psu_state: PsuState::Detached,
-            consumer_capability: OptionConsumerPowerCapability::None,
-            requested_provider_capability: OptionProviderPowerCapability::None,
-        }
-    }
-
-    // The record with another device state.
-    fn enter(self, psu_state: PsuState) -> State
-        ensures { result ≡ record { psu_state = psu_state; consumer_capability = self.consumer_capability; requested_provider_capability = self.requested_provider_capability } }
-    {
-        let consumer_capability = self.consumer_capability;
-        let requested_provider_capability = self.requested_provider_capability;
-        State {
-            psu_state,
-            consumer_capability,
-            requested_provider_capability,
-        }
-    }
-
     // Attach the device. In a wrong state it returns the error and still enters Idle.
-    pub fn attach(self) -> Transition
-        ensures { result ≡ attach_of self }
+    pub fn attach(&mut self) -> Result<(), Error>
+        ensures result { result ≡ (attach_of self.old).result }
+        ensures state { self.new ≡ (attach_of self.old).state }
     {
-        let psu_state = self.psu_state;
-        let result = expect(detached(), psu_state.kind());
-        let state = self.enter(PsuState::Idle);
-        Transition { result, state }
+        let result = expect(detached(), self.psu_state.kind());
+        self.psu_state = PsuState::Idle;
+        result
     }
 
     // Detach the device, from any state.
-    pub fn detach(self) -> State
-        ensures { result ≡ detach_of self }
+    pub fn detach(&mut self)
+        ensures { self.new ≡ detach_of self.old }
     {
-        State {
-            psu_state: PsuState::Detached,
-            consumer_capability: OptionConsumerPowerCapability::None,
-            requested_provider_capability: OptionProviderPowerCapability::None,
-        }
+        *self = State::default();
     }
 
     // Disconnect the device. In a wrong state it returns the error and still enters Idle.
-    pub fn disconnect(self, clear_caps: bool) -> Transition
-        ensures { result ≡ disconnect_of self clear_caps }
+    pub fn disconnect(&mut self, clear_caps: bool) -> Result<(), Error>
+        ensures result { result ≡ (disconnect_of self.old clear_caps).result }
+        ensures state { self.new ≡ (disconnect_of self.old clear_caps).state }
     {
-        let psu_state = self.psu_state;
-        let result = expect(attached(), psu_state.kind());
+        let result = expect(attached(), self.psu_state.kind());
+        self.psu_state = PsuState::Idle;
         if clear_caps {
-            return Transition {
-                result,
-                state: State {
-                    psu_state: PsuState::Idle,
-                    consumer_capability: OptionConsumerPowerCapability::None,
-                    requested_provider_capability: OptionProviderPowerCapability::None,
-                },
-            };
+            self.consumer_capability = None;
+            self.requested_provider_capability = None;
         }
-        let state = self.enter(PsuState::Idle);
-        Transition { result, state }
+        result
     }
 
-    // Update the available consumer capability.
+    // Update the available consumer capability. In a wrong state it returns the error and still stores it.
     pub fn update_consumer_power_capability(
-        self,
-        capability: OptionConsumerPowerCapability,
-    ) -> Transition
-        ensures { result ≡ update_consumer_of self capability }
+        &mut self,
+        capability: Option<ConsumerPowerCapability>,
+    ) -> Result<(), Error>
+        ensures result { result ≡ (update_consumer_of self.old capability).result }
+        ensures state { self.new ≡ (update_consumer_of self.old capability).state }
     {
-        let psu_state = self.psu_state;
-        let requested_provider_capability = self.requested_provider_capability;
-        let result = expect(attached(), psu_state.kind());
-        Transition {
-            result,
-            state: State {
-                psu_state,
-                consumer_capability: capability,
-                requested_provider_capability,
-            },
-        }
+        self.consumer_capability = capability;
+        expect(attached(), self.psu_state.kind())
     }
 
     // Update the requested provider capability. An equal request is no error in any state.
     pub fn update_requested_provider_power_capability(
-        self,
-        capability: OptionProviderPowerCapability,
-    ) -> Transition
-        ensures { result ≡ update_requested_of self capability }
+        &mut self,
+        capability: Option<ProviderPowerCapability>,
+    ) -> Result<(), Error>
+        ensures result { result ≡ (update_requested_of self.old capability).result }
+        ensures state { self.new ≡ (update_requested_of self.old capability).state }
     {
-        let requested = self.requested_provider_capability;
-        if requested.same(capability) {
-            return Transition {
-                result: Result::Ok,
-                state: self,
-            };
+        if self.requested_provider_capability == capability {
+            return Ok(());
         }
-        let psu_state = self.psu_state;
-        let consumer_capability = self.consumer_capability;
-        let result = expect(attached(), psu_state.kind());
-        Transition {
-            result,
-            state: State {
-                psu_state,
-                consumer_capability,
-                requested_provider_capability: capability,
-            },
-        }
+        self.requested_provider_capability = capability;
+        expect(attached(), self.psu_state.kind())
     }
 
     // Whether a request to connect as a consumer is valid in the current state.
-    pub fn can_connect_consumer(self) -> Result
-        ensures { result ≡ can_connect_consumer_of self }
+    pub fn can_connect_consumer(&self) -> Result<(), Error>
+        ensures { result ≡ can_connect_consumer_of self.now }
     {
-        let psu_state = self.psu_state;
-        expect(idle_or_consumer(), psu_state.kind())
+        expect(idle_or_consumer(), self.psu_state.kind())
     }
 
     // Handle a request to connect as a consumer. In a wrong state nothing changes.
-    pub fn connect_consumer(self, capability: ConsumerPowerCapability) -> Transition
-        ensures { result ≡ connect_consumer_of self capability }
+    pub fn connect_consumer(&mut self, capability: ConsumerPowerCapability) -> Result<(), Error>
+        ensures result { result ≡ (connect_consumer_of self.old capability).result }
+        ensures state { self.new ≡ (connect_consumer_of self.old capability).state }
     {
-        let result = self.can_connect_consumer();
-        if let Result::Err(_) = result {
-            return Transition {
-                result,
-                state: self,
-            };
-        }
-        let state = self.enter(PsuState::ConnectedConsumer(capability));
-        Transition {
-            result: Result::Ok,
-            state,
-        }
+        self.can_connect_consumer()?;
+        self.psu_state = PsuState::ConnectedConsumer(capability);
+        Ok(())
     }
 
     // Whether a request to connect as a provider is valid in the current state.
-    pub fn can_connect_provider(self) -> Result
-        ensures { result ≡ can_connect_provider_of self }
+    pub fn can_connect_provider(&self) -> Result<(), Error>
+        ensures { result ≡ can_connect_provider_of self.now }
     {
-        let psu_state = self.psu_state;
-        expect(idle_or_provider(), psu_state.kind())
+        expect(idle_or_provider(), self.psu_state.kind())
     }
 
     // Handle a request to connect as a provider. In a wrong state nothing changes.
-    pub fn connect_provider(self, capability: ProviderPowerCapability) -> Transition
-        ensures { result ≡ connect_provider_of self capability }
+    pub fn connect_provider(&mut self, capability: ProviderPowerCapability) -> Result<(), Error>
+        ensures result { result ≡ (connect_provider_of self.old capability).result }
+        ensures state { self.new ≡ (connect_provider_of self.old capability).state }
     {
-        let result = self.can_connect_provider();
-        if let Result::Err(_) = result {
-            return Transition {
-                result,
-                state: self,
-            };
-        }
-        let state = self.enter(PsuState::ConnectedProvider(capability));
-        Transition {
-            result: Result::Ok,
-            state,
-        }
+        self.can_connect_provider()?;
+        self.psu_state = PsuState::ConnectedProvider(capability);
+        Ok(())
     }
 
     // The provider contract, if the PSU is connected as a provider.
-    pub fn connected_provider_capability(self) -> OptionProviderPowerCapability
-        ensures { result ≡ connected_provider_of self }
+    pub fn connected_provider_capability(&self) -> Option<ProviderPowerCapability>
+        ensures { result ≡ connected_provider_of self.now }
     {
-        let psu_state = self.psu_state;
-        match psu_state {
-            PsuState::ConnectedProvider(capability) => OptionProviderPowerCapability::Some(
-                capability,
-            ),
-            PsuState::Idle => OptionProviderPowerCapability::None,
-            PsuState::ConnectedConsumer(_) => OptionProviderPowerCapability::None,
-            PsuState::Detached => OptionProviderPowerCapability::None,
+        match self.psu_state {
+            PsuState::ConnectedProvider(capability) => Some(capability),
+            _ => None,
         }
     }
 }

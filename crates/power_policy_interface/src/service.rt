@@ -5,7 +5,7 @@ ghost use Rattle.std.specs.Prelude.{◌≡◌};
 ghost use Rattle.power_policy_interface.specs.Service.{same_unconstrained};
 
 // Unconstrained state information.
-#[derive(Clone, Copy)]
+#[derive(Clone, Copy, PartialEq, Eq)]
 pub struct UnconstrainedState {
     // An unconstrained consumer is connected.
     pub unconstrained: bool,
@@ -21,15 +21,5 @@ impl UnconstrainedState {
             unconstrained,
             available,
         }
-    }
-
-    // Whether two states are equal in both figures.
-    pub fn same(self, other: UnconstrainedState) -> bool
-        ensures { result ≡ same_unconstrained self other }
-    {
-        if self.available != other.available {
-            return false;
-        }
-        self.unconstrained == other.unconstrained
     }
 }

@@ -1,24 +1,21 @@
 -- The choice as DEM-2c says it: none if no port is eligible; else an eligible port such that no eligible port has more milliwatts, and of
 -- equals the current one, else the earliest. That this is what the order of pairs gives is in proofs/Choice.antt.
-use Rattle.std.specs.Prelude.{ℕ, ◌<◌, ◌≤◌, true, false, List, ◌⊎◌, ◌≡◌}
+use Rattle.std.specs.Prelude.{ℕ, ◌<◌, ◌≤◌, true, false, List, ◌⊎◌, ◌≡◌, None, Option, Some}
 use Rattle.power_policy_interface.specs.Capability.{max_power_mw}
 use Rattle.power_policy_interface.specs.declared.capability.ConsumerPowerCapability.{ConsumerPowerCapability}
-use Rattle.power_policy_interface.specs.declared.capability.OptionConsumerPowerCapability.{OptionConsumerPowerCapability}
 use Rattle.power_policy_interface.specs.declared.psu.State.{State}
 use Rattle.interface_display.specs.declared.AvailableConsumer.{AvailableConsumer}
-use Rattle.interface_display.specs.declared.OptionAvailableConsumer.{OptionAvailableConsumer}
 use Rattle.power_policy_service.specs.Consumer.{eligible, is_current}
 use Rattle.power_policy_service.specs.Rows.{psu_at}
-use Rattle.power_policy_service.specs.declared.config.OptionMilliwatts.{OptionMilliwatts}
 
 abbrev pub mw : ConsumerPowerCapability → ℕ
 mw c = max_power_mw c.capability
 
-module _ (minimum : OptionMilliwatts) (current : OptionAvailableConsumer) (psus : List State) (ports : ℕ) where
+module _ (minimum : Option ℕ) (current : Option AvailableConsumer) (psus : List State) (ports : ℕ) where
   -- port p is registered and eligible with this capability
   pub record Eligible (p : ℕ) (d : ConsumerPowerCapability) : Type 0 where
     pub registered : p < ports
-    pub offered : eligible minimum (psu_at psus p) ≡ OptionConsumerPowerCapability.Some d
+    pub offered : eligible minimum (psu_at psus p) ≡ Some d
 
   pub record Best (c : AvailableConsumer) : Type 0 where
     pub offer : Eligible c.psu c.consumer_power_capability
@@ -29,7 +26,7 @@ module _ (minimum : OptionMilliwatts) (current : OptionAvailableConsumer) (psus 
         (p : ℕ) (d : ConsumerPowerCapability) → Eligible p d → mw d ≡ mw c.consumer_power_capability →
         (is_current current c.psu ≡ true) ⊎ ((is_current current p ≡ false) × (c.psu ≤ p))
 
-  abbrev pub Chosen : OptionAvailableConsumer → Type 0
-  Chosen OptionAvailableConsumer.None =
-      (p : ℕ) → p < ports → eligible minimum (psu_at psus p) ≡ OptionConsumerPowerCapability.None
-  Chosen (OptionAvailableConsumer.Some c) = Best c
+  abbrev pub Chosen : Option AvailableConsumer → Type 0
+  Chosen None =
+      (p : ℕ) → p < ports → eligible minimum (psu_at psus p) ≡ None
+  Chosen (Some c) = Best c

@@ -3,7 +3,7 @@
 use Rattle.std.specs.Prelude.{ℕ, ◌<◌, Bool, true, false, ◌↔◌, ◌⊎◌, ◌≡◌}
 use Rattle.power_policy_interface.specs.Order.{cmp_nat, cmp_bool, then_with}
 use Rattle.power_policy_interface.specs.declared.capability.ConsumerPowerCapability.{ConsumerPowerCapability}
-use Rattle.power_policy_interface.specs.declared.capability.Ordering.{Ordering}
+use Rattle.std.specs.declared.cmp.Ordering.{Ordering}
 use Rattle.power_policy_service.specs.Choice.{mw}
 use Rattle.power_policy_service.specs.Consumer.{cmp_consumer}
 

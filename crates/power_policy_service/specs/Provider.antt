@@ -1,18 +1,18 @@
 -- Totals as sums over the row (EVT-9), the power state, and what a request is granted (provider.rs; PRV).
-use Rattle.std.specs.Prelude.{ℕ, zero, suc, ◌+◌, cond, List, ltb, eqb}
+use Rattle.std.specs.Prelude.{ℕ, zero, suc, ◌+◌, cond, List, ltb, eqb, None, Option, Some}
 use Rattle.power_policy_interface.specs.Capability.{max_power_mw}
 use Rattle.power_policy_interface.specs.Psu.{connected_provider_of}
 use Rattle.power_policy_interface.specs.declared.capability.PowerCapability.{PowerCapability}
 use Rattle.power_policy_interface.specs.declared.capability.ProviderPowerCapability.{ProviderPowerCapability}
-use Rattle.power_policy_interface.specs.declared.capability.OptionProviderPowerCapability.{OptionProviderPowerCapability}
 use Rattle.power_policy_interface.specs.declared.psu.State.{State}
 use Rattle.power_policy_service.specs.Rows.{psu_at}
 use Rattle.power_policy_service.specs.declared.config.Config.{Config}
 use Rattle.power_policy_service.specs.declared.provider.PowerState.{PowerState}
+use Rattle.power_policy_service.specs.declared.totals.Request.{Request}
 
-abbrev pub provided_mw : OptionProviderPowerCapability → ℕ
-provided_mw OptionProviderPowerCapability.None = 0
-provided_mw (OptionProviderPowerCapability.Some c) = max_power_mw c.capability
+abbrev pub provided_mw : Option ProviderPowerCapability → ℕ
+provided_mw None = 0
+provided_mw (Some c) = max_power_mw c.capability
 
 -- a port's connected provider contract in mW
 abbrev pub connected_mw : State → ℕ
@@ -21,6 +21,11 @@ connected_mw s = provided_mw (connected_provider_of s)
 -- PRV-2: the requester counts with its request
 abbrev pub requested_mw : ℕ → ProviderPowerCapability → ℕ → State → ℕ
 requested_mw requester request p s = cond (eqb p requester) (max_power_mw request.capability) (connected_mw s)
+
+-- the same where a port may request or none does
+abbrev pub counted_mw : Option Request → ℕ → State → ℕ
+counted_mw None p s = connected_mw s
+counted_mw (Some r) p s = requested_mw r.port r.asked p s
 
 -- a sum over the first n ports
 abbrev pub sum_to : (ℕ → ℕ) → ℕ → ℕ

@@ -4,13 +4,6 @@ ghost use Rattle.power_policy_service.specs.Config.{rust_default, default_config
 
 use power_policy_interface::capability::PowerCapability;
 
-// Option<u32>.
-#[derive(Clone, Copy)]
-pub enum OptionMilliwatts {
-    None,
-    Some(u32),
-}
-
 #[derive(Clone, Copy)]
 pub struct Config {
     // Above this threshold, the system is in limited power mode.
@@ -20,14 +13,16 @@ pub struct Config {
     // Power capability of every provider in limited power mode.
     pub provider_limited: PowerCapability,
     // Minimum power to consume from; with none, any power is consumed.
-    pub min_consumer_threshold_mw: OptionMilliwatts,
+    pub min_consumer_threshold_mw: Option<u32>,
 }
 
-// What reading a configuration from numbers finds.
-#[derive(Clone, Copy)]
-pub enum OptionConfig {
-    None,
-    Some(Config),
+impl Default for Config {
+    ghost is_default = { λ c. c ≡ default_config };
+
+    // The configuration out of the box.
+    fn default() -> Self {
+        Config::rust_default()
+    }
 }
 
 impl Config {
@@ -45,15 +40,8 @@ impl Config {
                 voltage_mv: 5000,
                 current_ma: 1500,
             },
-            min_consumer_threshold_mw: OptionMilliwatts::None,
+            min_consumer_threshold_mw: None,
         }
-    }
-
-    // The configuration out of the box.
-    pub fn default() -> Self
-        ensures { result ≡ default_config }
-    {
-        Config::rust_default()
     }
 
     // A configuration from numbers; none where a figure is over its Rust type. The minimum is a presence, 0 or 1, and a figure
@@ -66,59 +54,30 @@ impl Config {
         limited_ma: u64,
         presence: u64,
         minimum: u64,
-    ) -> OptionConfig
+    ) -> Option<Config>
         ensures { result ≡ config_from threshold unlimited_mv unlimited_ma limited_mv limited_ma presence minimum }
     {
-        if 0xffff_ffff < threshold {
-            return OptionConfig::None;
-        }
-        if 0xffff < unlimited_mv {
-            return OptionConfig::None;
-        }
-        if 0xffff < unlimited_ma {
-            return OptionConfig::None;
-        }
-        if 0xffff < limited_mv {
-            return OptionConfig::None;
-        }
-        if 0xffff < limited_ma {
-            return OptionConfig::None;
-        }
-        match minimum_from(presence, minimum) {
-            ReadMinimum::Refused => OptionConfig::None,
-            ReadMinimum::Read(min_consumer_threshold_mw) => OptionConfig::Some(Config {
-                limited_power_threshold_mw: threshold as u32,
-                provider_unlimited: PowerCapability {
-                    voltage_mv: unlimited_mv as u16,
-                    current_ma: unlimited_ma as u16,
-                },
-                provider_limited: PowerCapability {
-                    voltage_mv: limited_mv as u16,
-                    current_ma: limited_ma as u16,
-                },
-                min_consumer_threshold_mw,
-            }),
-        }
+        Some(Config {
+            limited_power_threshold_mw: u32::try_from(threshold).ok()?,
+            provider_unlimited: PowerCapability {
+                voltage_mv: u16::try_from(unlimited_mv).ok()?,
+                current_ma: u16::try_from(unlimited_ma).ok()?,
+            },
+            provider_limited: PowerCapability {
+                voltage_mv: u16::try_from(limited_mv).ok()?,
+                current_ma: u16::try_from(limited_ma).ok()?,
+            },
+            min_consumer_threshold_mw: minimum_from(presence, minimum)?,
+        })
     }
 }
 
-#[derive(Clone, Copy)]
-pub enum ReadMinimum {
-    Refused,
-    Read(OptionMilliwatts),
-}
-
-fn minimum_from(presence: u64, minimum: u64) -> ReadMinimum
+fn minimum_from(presence: u64, minimum: u64) -> Option<Option<u32>>
     ensures { result ≡ minimum_from presence minimum }
 {
-    if presence == 0 {
-        return ReadMinimum::Read(OptionMilliwatts::None);
+    match presence {
+        0 => Some(None),
+        1 => Some(Some(u32::try_from(minimum).ok()?)),
+        _ => None,
     }
-    if 1 < presence {
-        return ReadMinimum::Refused;
-    }
-    if 0xffff_ffff < minimum {
-        return ReadMinimum::Refused;
-    }
-    ReadMinimum::Read(OptionMilliwatts::Some(minimum as u32))
 }

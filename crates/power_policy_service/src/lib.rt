@@ -4,3 +4,4 @@
 pub mod config;
 pub mod consumer;
 pub mod provider;
+pub mod totals;

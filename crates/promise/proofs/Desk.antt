@@ -1,5 +1,6 @@
 -- The desk's calls on an image that a follower start left, whatever bytes are taken: the image is read as the code's follower after them, which says what
 -- the abstract one does (promise_link proofs/Alike.antt).
+use Rattle.std.specs.Prelude.{Err, None, Ok, Option, Result, Some}
 use mathlib.Core.Path.{◌≡◌, refl, sym, ap, ◌∙◌, subst}
 use mathlib.Core.Bool.{Bool, true, false, cond}
 use mathlib.Core.List.{List, []}
@@ -10,11 +11,10 @@ use lib.ListN.{length}
 use Rattle.power_policy_interface.specs.Limits.{follower_length}
 use Rattle.interface_records.specs.Row.{AllBytes}
 use Rattle.interface_display.specs.Providers.{none}
-use Rattle.interface_display.specs.declared.OptionAvailableConsumer.{OptionAvailableConsumer}
+use Rattle.interface_display.specs.declared.packet.Packet.{Packet}
 use Rattle.interface_display.specs.declared.State.{State}
 use Rattle.abstract_policy.proofs.First.{first}
 use Rattle.wire.specs.Read.{read_packet}
-use Rattle.wire.specs.declared.packet.ReadPacket.{ReadPacket}
 use Rattle.abstract_desk.specs.Follower as paper
 use Rattle.abstract_desk.specs.Takes.{paper_after, EachBytes}
 use Rattle.desk_follower.specs.Follower.{fresh, state_of, consumer_of}
@@ -36,21 +36,21 @@ use Rattle.abstract_calls.proofs.Packets.{read_refuses}
 use Rattle.abstract_calls.proofs.Pages.{page_refuses, page_back}
 use Rattle.abstract_calls.proofs.Results.{packed_low, done_low}
 use Rattle.bytes_follower_image.specs.Image.{follower_bytes, follower_from}
-use Rattle.bytes_follower_image.specs.declared.ReadFollower.{ReadFollower}
 use Rattle.bytes_follower_image.proofs.OneImage.{follower_length_lem, follower_bytes_lem}
-use Rattle.bytes_calls.specs.Calls.{taken_call, take_call, reader_call, shown_as, tracked_in}
+use Rattle.bytes_calls.specs.Calls.{taken_call, take_on, take_call, reader_call, shown_as, tracked_in}
 use Rattle.abi_functions.specs.Ours.{functions}
+use Rattle.promise_calls.proofs.Low.{not_two}
 use Rattle.promise_calls.proofs.Takes.{each_keeps, desk_is, desk_fits, desk_read}
 use Rattle.promise.specs.Promise.{Follows, FollowerStarts}
 use Rattle.promise.specs.Runs.{Says}
 use Rattle.promise.proofs.Pages.{page_is, page_says}
 
-pub taken_number : (b : List ℕ) (f : Follower) (y : ReadPacket) → (taken_call b f y).number ≡ take_to y
-taken_number b f (ReadPacket.Refused n) = refl
-taken_number b f (ReadPacket.Packet p) = refl
+pub taken_number : (b : List ℕ) (f : Follower) (y : Result Packet ℕ) → (taken_call b f y).number ≡ take_to y
+taken_number b f (Err n) = refl
+taken_number b f (Ok p) = refl
 
 module _ (x : List ℕ) (e : length x ≡ follower_length) (l : List DeskCall) (a : DeskBytes l) where
-  read : follower_from (desk functions x l) ≡ record { ok = true; follower = follower_after (packets_of l) }
+  read : follower_from (desk functions x l) ≡ Some (follower_after (packets_of l))
   read = desk_read x e l (each_keeps (packets_of l) a)
 
   size : length (desk functions x l) ≡ follower_length
@@ -58,13 +58,13 @@ module _ (x : List ℕ) (e : length x ≡ follower_length) (l : List DeskCall) (
 
   number : (y : List ℕ) → (take_call (desk functions x l) y).number ≡ take_to (read_packet y)
   number y =
-      ap (λ (r : ReadFollower). (cond {A = Called} r.ok (taken_call (desk functions x l) r.follower (read_packet y)) (refused_call 21 (desk functions x l))).number) read
+      ap (λ (r : Option Follower). (take_on (desk functions x l) r y).number) read
       ∙ taken_number (desk functions x l) (follower_after (packets_of l)) (read_packet y)
 
-  back : (y : List ℕ) (n : ℕ) → read_packet y ≡ ReadPacket.Refused n → (take_call (desk functions x l) y).bytes ≡ desk functions x l
+  back : (y : List ℕ) (n : ℕ) → read_packet y ≡ Err n → (take_call (desk functions x l) y).bytes ≡ desk functions x l
   back y n q =
-      ap (λ (r : ReadFollower). (cond {A = Called} r.ok (taken_call (desk functions x l) r.follower (read_packet y)) (refused_call 21 (desk functions x l))).bytes) read
-      ∙ ap (λ (z : ReadPacket). (taken_call (desk functions x l) (follower_after (packets_of l)) z).bytes) q
+      ap (λ (r : Option Follower). (take_on (desk functions x l) r y).bytes) read
+      ∙ ap (λ (z : Result Packet ℕ). (taken_call (desk functions x l) (follower_after (packets_of l)) z).bytes) q
 
   page_same : (buffer : List ℕ) → functions.write_page (desk functions x l) buffer ≡ page_call (page_of (followed l)) buffer
   page_same buffer =
@@ -77,7 +77,7 @@ module _ (x : List ℕ) (e : length x ≡ follower_length) (l : List DeskCall) (
       (page_says (desk functions x l) (follower_after (packets_of l)) read (desk_fits x e l (each_keeps (packets_of l) a)))
 
   told : (t : Follower → ℕ) → reader_call (follower_from (desk functions x l)) t ≡ t (follower_after (packets_of l))
-  told t = ap (λ (r : ReadFollower). reader_call r t) read
+  told t = ap (λ (r : Option Follower). reader_call r t) read
 
 -- what the code's follower tells is what the abstract one does
 
@@ -118,7 +118,7 @@ shown_low (paper.lost floor) = packed_low 5 0 0 0 0 0 (lit< tt)
 shown_low (paper.showing n d l) = one_to_one.outcomes.shown (paper.state (paper.showing n d l)) n d
 
 consumer_low : (p : paper.Follower) → consumer_by p % 256 ≡ 6
-consumer_low (paper.lost floor) = one_to_one.outcomes.consumer OptionAvailableConsumer.None
+consumer_low (paper.lost floor) = one_to_one.outcomes.consumer None
 consumer_low (paper.showing n d l) = one_to_one.outcomes.consumer d.consumer
 
 tracked_low : (p : paper.Follower) → tracked_by p % 256 ≡ 7
@@ -144,12 +144,10 @@ module _ (x : List ℕ) (e : length x ≡ follower_length) (l : List DeskCall) (
       (desk_after functions (desk functions x l) c ≡ desk functions x l) × (desk_buffer_after functions (desk functions x l) c ≡ desk_buffer_in c)
   turned_back (take_packet y) k = go (read_packet y) refl
     where
-      go : (r : ReadPacket) → read_packet y ≡ r → (desk_after functions (desk functions x l) (take_packet y) ≡ desk functions x l) × (◌≡◌ {A = List ℕ} [] [])
-      go (ReadPacket.Refused n) q = (back x e l a y n q, refl)
-      go (ReadPacket.Packet p) q =
-          absurd
-          (let z : ◌≡◌ {A = ℕ} 4 0 = sym done_low ∙ (ap (λ (n : ℕ). n % 256) (sym (number x e l a y ∙ ap take_to q)) ∙ k) in
-          omega (arith, z))
+      go : (r : Result Packet ℕ) → read_packet y ≡ r → (desk_after functions (desk functions x l) (take_packet y) ≡ desk functions x l) × (◌≡◌ {A = List ℕ} [] [])
+      go (Err n) q = (back x e l a y n q, refl)
+      go (Ok p) q =
+          absurd (not_two done_low (ap (λ (n : ℕ). n % 256) (sym (number x e l a y ∙ ap take_to q)) ∙ k) refl)
   turned_back read_shown k = (refl, refl)
   turned_back read_consumer k = (refl, refl)
   turned_back read_tracked k = (refl, refl)

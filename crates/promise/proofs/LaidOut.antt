@@ -1,6 +1,6 @@
 -- The layout: what each codec's own laws say, put together.
-use mathlib.Core.Path.{◌≡◌, sym, ap, ◌∙◌}
-use mathlib.Core.Bool.{Bool, true, false, cond}
+use Rattle.std.specs.Prelude.{None, Some}
+use mathlib.Core.Path.{◌≡◌, refl, sym, ap, ◌∙◌}
 use mathlib.Core.List.{List}
 use Prim.Native.Nat.{ℕ}
 use Rattle.interface_records.specs.Row.{AllBytes}
@@ -8,38 +8,32 @@ use Rattle.interface_records.specs.Charger.{charger_from}
 use Rattle.interface_records.specs.Psu.{psu_from}
 use Rattle.interface_records.proofs.OneRecord.{psu_read_write, psu_write_read, charger_read_write, charger_write_read}
 use Rattle.power_policy_service.specs.declared.config.Config.{Config}
-use Rattle.power_policy_service.specs.declared.config.OptionConfig.{OptionConfig}
 use Rattle.machine_service.specs.Service.{fresh_service}
 use Rattle.machine_service.specs.declared.Service.{Service}
 use Rattle.wire.specs.Read.{read_packet}
 use Rattle.wire.proofs.Lengths.{packet_length}
 use Rattle.wire.proofs.OneNumber as number
 use Rattle.wire.proofs.OnePacket.{read_write, write_read}
-use Rattle.desk_follower.specs.Follower.{state_of, consumer_of}
 use Rattle.desk_follower.specs.declared.Follower.{Follower}
 use Rattle.desk_report.proofs.Whole.{run_is_follow, sheet_tells, sheet_shows_lem}
 use Rattle.promise_edges.specs.Edges.{edges}
 use Rattle.promise_run.specs.Demands.{Equal}
-use Rattle.abstract_calls.specs.Called.{Called, refused_call}
-use Rattle.abstract_calls.specs.Numbers.{refused_number, consumer_number}
+use Rattle.abstract_calls.specs.Called.{refused_call}
+use Rattle.abstract_calls.specs.Numbers.{refused_number}
 use Rattle.abstract_calls.specs.ServiceCall.{ByteCall}
 use Rattle.abstract_calls.specs.Calls.{CallsBytes, images, packets_of}
 use Rattle.abstract_calls.specs.Functions.{Arguments, config_of}
 use Rattle.abstract_calls.specs.Definition.{defined}
 use Rattle.abstract_calls.proofs.OneToOne.{one_to_one}
 use Rattle.bytes_service_image.specs.Image.{service_from}
-use Rattle.bytes_service_image.specs.declared.ReadService.{ReadService}
 use Rattle.bytes_service_image.proofs.Service.{service_read_write, service_write_read, service_read_typed}
 use Rattle.bytes_follower_image.specs.Image.{follower_from}
-use Rattle.bytes_follower_image.specs.declared.ReadFollower.{ReadFollower}
 use Rattle.bytes_follower_image.proofs.OneImage.{follower_read_write, follower_write_read, follower_read_fits}
 use Rattle.promise_invariant.proofs.Good.{Good}
 use Rattle.promise_invariant.proofs.Bound.{good_orders, good_rest}
-use Rattle.abstract_calls.specs.Lent.{page_call}
-use Rattle.desk_report.specs.Page.{page_bytes, page_for}
 use Rattle.promise.proofs.AnyBytes.{desk_refuses, desk_turned_back, readers_on}
 use Rattle.promise.proofs.Pages.{page_is, page_says}
-use Rattle.bytes_calls.specs.Calls.{taken_call, shown_as, tracked_in}
+use Rattle.bytes_calls.specs.Calls.{taken_call}
 use Rattle.abi_functions.specs.Ours.{functions}
 use Rattle.promise_calls.proofs.Takes.{each_keeps, desk_read}
 use Rattle.promise_calls.proofs.Images.{image_read}
@@ -51,8 +45,8 @@ use Rattle.promise.specs.Promise.{start_refused, registers}
 use Rattle.promise.proofs.Promised.{started_good, started_demands}
 use Rattle.promise.proofs.Starts.{start_leaves}
 
-held : (image : List ℕ) (a : Arguments) → start_refused image a ≡ 0 → (c : Config) → config_of a ≡ OptionConfig.Some c → (l : List ByteCall) → CallsBytes l →
-    (s : Service) × (service_from (images functions (functions.start image a).bytes l) ≡ ReadService.Read s) × Equal s (defined (registers a c) l)
+held : (image : List ℕ) (a : Arguments) → start_refused image a ≡ 0 → (c : Config) → config_of a ≡ Some c → (l : List ByteCall) → CallsBytes l →
+    (s : Service) × (service_from (images functions (functions.start image a).bytes l) ≡ Some s) × Equal s (defined (registers a c) l)
 held image a q c e l b =
     let z = start_leaves image a.ports a.chargers (config_of a) c e q in
     let s : Service = fresh_service c a.ports a.chargers in
@@ -64,26 +58,19 @@ held image a q c e l b =
       reached_equal s good demands l b,
     )
 
-accepted_good : (b : List ℕ) (s : Service) → AllBytes b → service_from b ≡ ReadService.Read s → Good s
+accepted_good : (b : List ℕ) (s : Service) → AllBytes b → service_from b ≡ Some s → Good s
 accepted_good b s h e =
     let z = service_read_typed b s h e in
     record { fits = z.1; typed = z.0 }
 
-no_follower : (b y : List ℕ) → (follower_from b).ok ≡ false →
+no_follower : (b y : List ℕ) → follower_from b ≡ None →
     (functions.take b y ≡ refused_call 21 b)
     × ((functions.shown b ≡ refused_number 21)
     × ((functions.consumer b ≡ refused_number 21) × ((functions.tracked b ≡ refused_number 21) × (functions.write_page b y ≡ refused_call 21 y))))
-no_follower b y e =
-    let f = (follower_from b).follower in (
-      ap (λ (t : Bool). cond {A = Called} t (taken_call b f (read_packet y)) (refused_call 21 b)) e,
-      (reader (shown_as (state_of f) f.shown), (reader (consumer_number (consumer_of f.shown)), (reader (tracked_in f.shown), ap (λ (t : Bool). cond {A = Called} t (page_call (page_bytes (page_for f)) y) (refused_call 21 y)) e))),
-    )
-  where
-    reader : (n : ℕ) → cond {A = ℕ} (follower_from b).ok n (refused_number 21) ≡ refused_number 21
-    reader n = ap (λ (t : Bool). cond {A = ℕ} t n (refused_number 21)) e
+no_follower b y e = rw e (refl, (refl, (refl, (refl, refl))))
 
-takes_on_lem : (b y : List ℕ) (f : Follower) → follower_from b ≡ record { ok = true; follower = f } → functions.take b y ≡ taken_call b f (read_packet y)
-takes_on_lem b y f e = ap (λ (r : ReadFollower). cond {A = Called} r.ok (taken_call b r.follower (read_packet y)) (refused_call 21 b)) e
+takes_on_lem : (b y : List ℕ) (f : Follower) → follower_from b ≡ Some f → functions.take b y ≡ taken_call b f (read_packet y)
+takes_on_lem b y f e = rw e refl
 
 pub laid_out : Layout
 laid_out = record {

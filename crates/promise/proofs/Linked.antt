@@ -1,5 +1,6 @@
 -- DEM-3 of our functions: a packet or picture of the run is read as what the definition has there, so that promise_run's theorem on the link says
 -- what the follower shows, and its readers return that.
+use Rattle.std.specs.Prelude.{Ok, Option}
 use mathlib.Core.Path.{◌≡◌, refl, sym, ap, ◌∙◌, subst}
 use mathlib.Core.Bool.{true}
 use mathlib.Core.List.{List, [], ◌∷◌, ◌++◌}
@@ -18,7 +19,6 @@ use Rattle.machine_service.specs.declared.Service.{Service}
 use Rattle.wire.specs.Bytes.{packet_bytes}
 use Rattle.wire.specs.Read.{read_packet}
 use Rattle.wire.specs.WellFormed.{picture_fits}
-use Rattle.wire.specs.declared.packet.ReadPacket.{ReadPacket}
 use Rattle.desk_follower.specs.Follower.{state_of, consumer_of}
 use Rattle.desk_follower.specs.declared.Follower.{Follower}
 use Rattle.desk_follower.specs.declared.Shown.{Shown}
@@ -38,7 +38,6 @@ use Rattle.abstract_calls.specs.Definition.{calls_of, defined, held}
 use Rattle.bytes_service_image.specs.Image.{service_bytes}
 use Rattle.bytes_follower_image.specs.Fits.{shown_fits}
 use Rattle.bytes_follower_image.specs.Image.{follower_from}
-use Rattle.bytes_follower_image.specs.declared.ReadFollower.{ReadFollower}
 use Rattle.bytes_follower_image.proofs.OneImage.{fits, picture_parts}
 use Rattle.promise_invariant.proofs.Good.{Good}
 use Rattle.bytes_calls.specs.Calls.{reader_call, shown_as, tracked_in}
@@ -56,19 +55,6 @@ use Rattle.promise.specs.Runs.{PacketOf, PictureOf, Handed, packet, picture, tur
 use Rattle.promise.specs.Promise.{Link}
 use Rattle.promise.proofs.Sent.{packet_of, packet_is, picture_is}
 use Rattle.promise.proofs.Shown.{shown_number_lem, not_lost}
-
--- a packet is no picture
-
-abbrev IsEvent : Packet → Type 0
-IsEvent (Packet.Event e) = Unit {0}
-IsEvent (Packet.Picture v) = ⊥
-
-abbrev IsRead : ReadPacket → Type 0
-IsRead (ReadPacket.Refused n) = ⊥
-IsRead (ReadPacket.Packet p) = Unit {0}
-
-same_picture : (v w : Picture) → Packet.Picture v ≡ Packet.Picture w → v ≡ w
-same_picture v w q = cc
 
 module _ (s : Service) (good : Good s) (demands : run.Demands s) (calls : List ByteCall) (bytes : CallsBytes calls) (on : OnLink s (calls_of (started s.registration) calls)) where
   abbrev g : Registration
@@ -136,20 +122,20 @@ module _ (s : Service) (good : Good s) (demands : run.Demands s) (calls : List B
 
   -- what is among the takes, by bytes and by packets
 
-  met : (y : List ℕ) (p : Packet) (l : List (List ℕ)) → read_packet y ≡ ReadPacket.Packet p → In functions image g calls y l → Met p l
-  met y p [] r x = elim x [ ]
+  met : (y : List ℕ) (p : Packet) (l : List (List ℕ)) → read_packet y ≡ Ok p → In functions image g calls y l → Met p l
+  met y p [] r x = absurd x
   met y p (z ∷ l) r (inl e) = inl (ap read_packet e ∙ r)
   met y p (z ∷ l) r (inr i) = inr (met y p l r i)
 
-  among : (p : Packet) (l : List (List ℕ)) → Met p l → (y : List ℕ) × In functions image g calls y l × (read_packet y ≡ ReadPacket.Packet p)
-  among p [] x = elim x [ ]
+  among : (p : Packet) (l : List (List ℕ)) → Met p l → (y : List ℕ) × In functions image g calls y l × (read_packet y ≡ Ok p)
+  among p [] x = absurd x
   among p (y ∷ l) (inl e) = (y, inl refl, e)
   among p (y ∷ l) (inr m) =
       let z = among p l m in
       (z.0, inr z.1, z.2)
 
   hands : (y : List ℕ) (l : List (List ℕ)) → AllHanded functions image g calls l → In functions image g calls y l → Handed functions image g calls y
-  hands y [] q x = elim x [ ]
+  hands y [] q x = absurd x
   hands y (z ∷ l) q (inl e) = subst (λ (b : List ℕ). Handed functions image g calls b) e q.0
   hands y (z ∷ l) q (inr i) = hands y l q.1 i
 
@@ -166,26 +152,26 @@ module _ (s : Service) (good : Good s) (demands : run.Demands s) (calls : List B
       let x = among p l i in
       go x.0 x.1 x.2 (hands x.0 l q x.1)
     where
-      go : (y : List ℕ) → In functions image g calls y l → read_packet y ≡ ReadPacket.Packet p → Handed functions image g calls y → number_in p ≤ m
+      go : (y : List ℕ) → In functions image g calls y l → read_packet y ≡ Ok p → Handed functions image g calls y → number_in p ≤ m
       go y j r (packet n w) =
           let z = event_of n y w in
           subst (λ (k : ℕ). k ≤ m) (sym z.number ∙ ap number_in (one_packet z.sent.read r)) (c n y j (inl w))
       go y j r (picture n w) =
           let z = view_of n y w in
           subst (λ (k : ℕ). k ≤ m) (sym z.number ∙ ap number_in (one_packet z.sent.read r)) (c n y j (inr w))
-      go y j r (turned_back n e) = absurd (subst IsRead (sym r ∙ e) tt)
+      go y j r (turned_back n e) = absurd (cc)
 
   no_event_above : (m : ℕ) (l : List (List ℕ)) → AllHanded functions image g calls l → NoEventAbove functions image g calls m l → link.NoLower m l
   no_event_above m l q c e i =
       let x = among (Packet.Event e) l i in
       go x.0 x.1 x.2 (hands x.0 l q x.1)
     where
-      go : (y : List ℕ) → In functions image g calls y l → read_packet y ≡ ReadPacket.Packet (Packet.Event e) → Handed functions image g calls y → e.number ≤ m
+      go : (y : List ℕ) → In functions image g calls y l → read_packet y ≡ Ok (Packet.Event e) → Handed functions image g calls y → e.number ≤ m
       go y j r (packet n w) =
           let z = event_of n y w in
           subst (λ (k : ℕ). k ≤ m) (sym z.number ∙ ap number_in (one_packet z.sent.read r)) (c n y j w)
-      go y j r (picture n w) = absurd (subst IsEvent (sym (one_packet (view_of n y w).sent.read r)) tt)
-      go y j r (turned_back n t) = absurd (subst IsRead (sym r ∙ t) tt)
+      go y j r (picture n w) = absurd (cc ((view_of n y w).sent.read))
+      go y j r (turned_back n t) = absurd (cc)
 
   no_lower : (m : ℕ) (l : List (List ℕ)) → link.NoLower m l → NoEventAbove functions image g calls m l
   no_lower m l c n y i w =
@@ -199,7 +185,7 @@ module _ (s : Service) (good : Good s) (demands : run.Demands s) (calls : List B
     keep = all_keep source (packets_of l) (all_handed (packets_of l) q)
 
     told : (t : Follower → Shown → ℕ) (u : Shown) → (follower_after (packets_of l)).shown ≡ u → reader_call (follower_from (desk functions x l)) (λ f. t f f.shown) ≡ t (follower_after (packets_of l)) u
-    told t u e = ap (λ (r : ReadFollower). reader_call r (λ f. t f f.shown)) (desk_read x size l keep) ∙ ap (t (follower_after (packets_of l))) e
+    told t u e = ap (λ (r : Option Follower). reader_call r (λ f. t f f.shown)) (desk_read x size l keep) ∙ ap (t (follower_after (packets_of l))) e
 
     says : (u : Shown) → (follower_after (packets_of l)).shown ≡ u → Says functions (desk functions x l) (entries_of (seen_at u (follower_after (packets_of l)).held))
     says u e =
@@ -336,13 +322,13 @@ module _ (s : Service) (good : Good s) (demands : run.Demands s) (calls : List B
         (subst (λ (l : List (List ℕ)). taken.FollowerLost (follower_after l)) (sym (one_more before y))
         (on.demand.d (packets_of before) y (all_handed (packets_of before) q) (handed y h) (by_lost x size before q lost) (go h)))
       where
-        go : Handed functions image g calls y → (p : Picture) → read_packet y ≡ ReadPacket.Packet (Packet.Picture p) → link.NoLower p.number (packets_of before) → ⊥
-        go (packet n w) p r c = absurd (subst IsEvent (one_packet (event_of n y w).sent.read r) tt)
+        go : Handed functions image g calls y → (p : Picture) → read_packet y ≡ Ok (Packet.Picture p) → link.NoLower p.number (packets_of before) → ⊥
+        go (packet n w) p r c = cc ((event_of n y w).sent.read)
         go (picture n w) p r c =
             let v = view_of n y w in
-            let e : v.view ≡ p = same_picture v.view p (one_packet v.sent.read r) in
+            let e : v.view ≡ p = cc (v.sent.read) in
             k n w (no_lower n (packets_of before) (subst (λ (m : ℕ). link.NoLower m (packets_of before)) (sym (ap (λ (z : Picture). z.number) e) ∙ v.number) c))
-        go (turned_back n t) p r c = subst IsRead (sym r ∙ t) tt
+        go (turned_back n t) p r c = cc
 
     pub ours-link : Link functions image g calls x
     ours-link = record { never_wrong = never_wrong; follows = follows; recovers = recovers; stays_lost = stays_lost }

@@ -1,4 +1,5 @@
 -- The meaning of a registration that a start accepts: along a run the machine is well formed and stands where the definition stands.
+use Rattle.std.specs.Prelude.{Ok, Some}
 use mathlib.Core.Path.{◌≡◌, refl, ap, ◌∙◌, subst}
 use mathlib.Core.List.{List, [], ◌∷◌}
 use Prim.Native.Nat.{ℕ, ◌+◌, ◌*◌, ◌≤◌}
@@ -8,12 +9,10 @@ use Rattle.power_policy_interface.specs.declared.service.event.Event.{Event}
 use Rattle.interface_display.specs.Notices.{empty, listed}
 use Rattle.interface_display.specs.declared.packet.EventPacket.{EventPacket}
 use Rattle.power_policy_service.specs.declared.config.Config.{Config}
-use Rattle.power_policy_service.specs.declared.config.OptionConfig.{OptionConfig}
 use Rattle.abstract_policy.specs.Orders.{orders_of}
 use Rattle.abstract_policy.specs.Policy.{started}
 use Rattle.abstract_policy.specs.Returns.{pushed_all, packet_to}
 use Rattle.abstract_policy.specs.declared.state.Registration.{Registration}
-use Rattle.abstract_policy.specs.declared.outcome.SentPacket.{SentPacket}
 use Rattle.abstract_policy.proofs.Orders.{run_counts}
 use Rattle.abstract_policy.proofs.Chosen.{run_chooses}
 use Rattle.machine_service.specs.Service.{fresh_service}
@@ -61,7 +60,7 @@ module _ (s : Service) (good : Good s) (demands : run.Demands s) where
       subst (λ (r : Registration). Closes r.chargers (defined g l).stand) (reached_registration s good demands l b)
       (stand_closes (reached s l) (defined g l) (reached_good s good demands l b) (reached_equal s good demands l b))
 
-  notices : (l : List ByteCall) (e : EventPacket) → CallsBytes l → packet_to (defined g l) ≡ SentPacket.Packet e →
+  notices : (l : List ByteCall) (e : EventPacket) → CallsBytes l → packet_to (defined g l) ≡ Ok e →
       (listed e.notices ≡ (defined g l).notices) × (length (defined g l).notices ≤ 4)
   notices l e b q =
       let m : length (defined g l).notices ≤ 4 =
@@ -81,7 +80,7 @@ module _ (s : Service) (good : Good s) (demands : run.Demands s) where
   }
 
 -- whatever a start accepts
-pub accepted_means : (image : List ℕ) (a : Arguments) → start_refused image a ≡ 0 → (c : Config) → config_of a ≡ OptionConfig.Some c → Meaning (registers a c)
+pub accepted_means : (image : List ℕ) (a : Arguments) → start_refused image a ≡ 0 → (c : Config) → config_of a ≡ Some c → Meaning (registers a c)
 accepted_means image a q c e =
     let z = start_leaves image a.ports a.chargers (config_of a) c e q in
     let s : Service = fresh_service c a.ports a.chargers in

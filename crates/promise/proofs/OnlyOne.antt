@@ -3,7 +3,6 @@ use mathlib.Core.Path.{◌≡◌, refl, sym, ap, ◌∙◌, subst}
 use mathlib.Core.Bool.{Bool, true, false, cond, not}
 use mathlib.Core.List.{List, [], ◌∷◌, ◌++◌}
 use Prim.Native.Nat.{ℕ, ◌%◌}
-use native.Mathlib.Omega.{arith}
 use lib.Dec.{eqb}
 use lib.ListN.{length}
 use borrow.Author.Tests.{eqb-true, eqb-false}
@@ -20,6 +19,7 @@ use Rattle.abstract_calls.specs.DeskCall.{DeskCall, desk_call}
 use Rattle.abstract_calls.specs.Functions.{Functions, Arguments, config_of}
 use Rattle.abstract_calls.proofs.Lists.{images_more, bytes_more, desks_more, desk_bytes_more}
 use Rattle.abstract_calls.proofs.Results.{refused_low, done_low}
+use Rattle.promise_calls.proofs.Low.{not_two}
 use Rattle.promise.specs.Promise.{done_or, start_refused, registers, Serves, Promise}
 use Rattle.promise.specs.Same.{Call, start, call, follower_start, desk, OfBytes, seen, trace, Same}
 use Rattle.promise.proofs.Starts.{configured}
@@ -29,7 +29,7 @@ done_zero n e = go (eqb n 0) refl e
   where
     go : (t : Bool) → eqb n 0 ≡ t → cond t done_number (refused_number n) ≡ done_number → n ≡ 0
     go true h q = eqb-true n 0 h
-    go false h q = absurd (let z : ◌≡◌ {A = ℕ} 0 4 = sym (refused_low n) ∙ (ap (λ (x : ℕ). x % 256) q ∙ done_low) in omega (arith, z))
+    go false h q = absurd (not_two (refused_low n) (ap (λ (x : ℕ). x % 256) q ∙ done_low) refl)
 
 zero_done : (n : ℕ) → n ≡ 0 → done_or n ≡ done_number
 zero_done n e = ap done_or e
@@ -178,7 +178,7 @@ module _ (f g : Functions) (p : Promise f) (q : Promise g) where
     where
       go : (t : Bool) → eqb (length x) follower_length ≡ t → cond t done_number (refused_number 21) ≡ done_number → length x ≡ follower_length
       go true h k = eqb-true (length x) follower_length h
-      go false h k = absurd (let z : ◌≡◌ {A = ℕ} 0 4 = sym (refused_low 21) ∙ (ap (λ (n : ℕ). n % 256) k ∙ done_low) in omega (arith, z))
+      go false h k = absurd (not_two (refused_low 21) (ap (λ (n : ℕ). n % 256) k ∙ done_low) refl)
 
   unsized : (x : List ℕ) → ((f.follower_start x).number ≡ done_number → ⊥) → eqb (length x) follower_length ≡ false
   unsized x k = go (eqb (length x) follower_length) (p.follower_start x).number

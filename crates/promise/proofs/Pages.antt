@@ -1,6 +1,7 @@
 -- Our page of an image is the definition's page of the follower that it is the image of, seen as the abstract one; and so it is read as what that shows.
+use Rattle.std.specs.Prelude.{Option, Some}
 use mathlib.Core.Path.{◌≡◌, ap, ◌∙◌, subst}
-use mathlib.Core.Bool.{true, cond}
+use mathlib.Core.Bool.{true}
 use mathlib.Core.List.{List, [], ◌∷◌}
 use mathlib.Core.Logic.{◌⊎◌, inl, inr}
 use Prim.Native.Nat.{ℕ}
@@ -14,7 +15,7 @@ use Rattle.abstract_desk.specs.Takes.{paper_after, EachBytes}
 use Rattle.abstract_page.specs.Page.{lines, shown_entries, entries_of, page_of, Fits}
 use Rattle.abstract_page.specs.ReadPage.{read_page}
 use Rattle.abstract_page.proofs.Same.{page_laws}
-use Rattle.abstract_calls.specs.Called.{Called, refused_call}
+use Rattle.abstract_calls.specs.Called.{Called}
 use Rattle.abstract_calls.specs.Lent.{page_call}
 use Rattle.abstract_calls.specs.Numbers.{shown_number}
 use Rattle.abstract_calls.proofs.Pages.{page_said}
@@ -22,12 +23,12 @@ use Rattle.desk_follower.specs.Follower.{fresh, state_of}
 use Rattle.desk_follower.specs.declared.Follower.{Follower}
 use Rattle.desk_follower.specs.declared.Shown.{Shown}
 use Rattle.desk_follower.specs.declared.held.Held.{Held}
-use Rattle.desk_report.specs.Page.{page_bytes, page_at, page_for}
+use Rattle.desk_report.specs.Page.{page_bytes, page_at}
 use Rattle.desk_report.proofs.Says.{lost_says, showing_says}
 use Rattle.bytes_follower_image.specs.Fits.{shown_fits, image_fits}
 use Rattle.bytes_follower_image.specs.Image.{follower_from}
-use Rattle.bytes_follower_image.specs.declared.ReadFollower.{ReadFollower}
 use Rattle.bytes_follower_image.proofs.OneImage.{fits, fresh_fits}
+use Rattle.bytes_calls.specs.Calls.{write_page_call}
 use Rattle.abi_functions.specs.Ours.{functions}
 use Rattle.promise_link.specs.Alike.{seen_at, seen}
 use Rattle.promise_link.specs.Link.{follower_after}
@@ -43,10 +44,10 @@ fits_by : (s : Shown) (h : Held) → shown_fits s ≡ true → Fits (seen_at s h
 fits_by (Shown.Lost floor) h e = tt
 fits_by (Shown.Picture s) h e = e
 
-module _ (b : List ℕ) (f : Follower) (r : follower_from b ≡ record { ok = true; follower = f }) (i : image_fits f ≡ true) where
+module _ (b : List ℕ) (f : Follower) (r : follower_from b ≡ Some f) (i : image_fits f ≡ true) where
   pub page_is : (buffer : List ℕ) → functions.write_page b buffer ≡ page_call (page_of (seen f)) buffer
   page_is buffer =
-      ap (λ (x : ReadFollower). cond {A = Called} x.ok (page_call (page_bytes (page_for x.follower)) buffer) (refused_call 21 buffer)) r
+      ap (λ (x : Option Follower). write_page_call x buffer) r
       ∙ ap (λ (y : List ℕ). page_call y buffer) (page_by f.shown f.held (state_of f) (alike.state f (fits f i).formed))
 
   pub page_says : Says functions b (entries_of (seen f))

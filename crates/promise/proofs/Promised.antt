@@ -1,6 +1,7 @@
 -- Ours keep the promise: after every list of calls the image is that of a well-formed service that stands where the definition stands.
+use Rattle.std.specs.Prelude.{None, Ok, Option, Some}
 use mathlib.Core.Path.{◌≡◌, refl, sym, ap, ◌∙◌, subst}
-use mathlib.Core.Bool.{Bool, true, false, cond}
+use mathlib.Core.Bool.{Bool, false}
 use mathlib.Core.List.{List, [], ◌∷◌, ◌++◌}
 use mathlib.Core.Logic.{inl, inr}
 use Prim.Native.Nat.{ℕ}
@@ -12,43 +13,32 @@ use Rattle.interface_display.specs.declared.packet.EventPacket.{EventPacket}
 use Rattle.interface_display.specs.declared.packet.Packet.{Packet}
 use Rattle.interface_display.specs.declared.packet.Picture.{Picture}
 use Rattle.power_policy_service.specs.declared.config.Config.{Config}
-use Rattle.power_policy_service.specs.declared.config.OptionConfig.{OptionConfig}
 use Rattle.abstract_policy.specs.Refusals.{first_refused, Applies, waiting}
 use Rattle.abstract_policy.specs.Policy.{Policy, Stand, between, at, order_at, is_at, started}
 use Rattle.abstract_policy.specs.Returns.{packet_to, picture_to}
 use Rattle.abstract_policy.specs.declared.state.Registration.{Registration}
-use Rattle.abstract_policy.specs.declared.outcome.SentPacket.{SentPacket}
-use Rattle.abstract_policy.specs.declared.outcome.SentPicture.{SentPicture}
 use Rattle.machine_state.specs.Phase.{order_of}
-use Rattle.machine_service.specs.Service.{start_of, fresh_service, open_of, answer_of}
+use Rattle.machine_service.specs.Service.{start_of, fresh_service}
 use Rattle.machine_service.specs.declared.Service.{Service}
-use Rattle.machine_service.specs.declared.Started.{Started}
 use Rattle.wire.specs.Read.{read_packet}
-use Rattle.wire.specs.declared.packet.ReadPacket.{ReadPacket}
-use Rattle.desk_follower.specs.Follower.{state_of, consumer_of}
-use Rattle.desk_follower.specs.declared.Follower.{Follower}
 use Rattle.promise_run.specs.Demands as run
 use Rattle.promise_run.specs.Demands.{Equal}
 use Rattle.promise_run.proofs.Linked.{after_start}
 use Rattle.promise_run.proofs.Starts.{start_fits}
-use Rattle.abstract_calls.specs.Called.{Called, refused_call}
-use Rattle.abstract_calls.specs.Numbers.{refused_number, consumer_number}
+use Rattle.abstract_calls.specs.Numbers.{refused_number}
 use Rattle.abstract_calls.specs.ServiceCall.{ByteCall, open_event, give_answer, read_order, write_packet, write_picture}
 use Rattle.abstract_calls.specs.Calls.{buffer_in, CallsBytes, image_after, returned, buffer_after, images, Writes, desk_after, desk_returned, desk_buffer_in, desk_buffer_after}
 use Rattle.abstract_calls.specs.DeskCall.{DeskCall, take_packet, read_shown, read_consumer, read_tracked, write_page}
 use Rattle.abstract_calls.specs.Functions.{Arguments, config_of}
 use Rattle.abstract_calls.specs.Definition.{calls_of, defined, conditions_to, Refuses}
 use Rattle.bytes_service_image.specs.Image.{service_bytes, service_from}
-use Rattle.bytes_service_image.specs.declared.ReadService.{ReadService}
 use Rattle.bytes_service_image.proofs.Service.{service_bytes_lem}
 use Rattle.bytes_service_image.proofs.Stored.{service_length_lem}
 use Rattle.bytes_follower_image.specs.Image.{follower_from}
 use Rattle.promise_invariant.proofs.Good.{Good}
-use Rattle.abstract_calls.specs.Lent.{page_call}
-use Rattle.desk_report.specs.Page.{page_bytes, page_for}
-use Rattle.bytes_calls.specs.Calls.{start_call, on_service, order_call, write_packet_call, write_picture_call, taken_call, reader_call, shown_as, tracked_in}
+use Rattle.bytes_calls.specs.Calls.{start_call}
 use Rattle.abi_functions.specs.Ours.{functions}
-use Rattle.abstract_calls.proofs.Lists.{no_bytes}
+use Rattle.abstract_calls.proofs.Lists.{no_bytes, bytes_more}
 use Rattle.promise_calls.specs.Refused.{of_image, refusals_of}
 use Rattle.promise_calls.proofs.Images.{calls_fit, image_read}
 use Rattle.promise_calls.proofs.First.{call_refuses, start_refuses}
@@ -75,10 +65,7 @@ without l n r = record {
 }
   where
     go : (m : ℕ) → Applies m ((false, 21) ∷ l) → Applies m l
-    go m (inl x) = absurd (no x)
-      where
-        no : (false ≡ true) × (21 ≡ m) → ⊥
-        no y = absurd (subst (λ (b : Bool). cond {A = Type 0} b ⊥ (Unit {0})) y.0 tt)
+    go m (inl x) = absurd (cc (x.0))
     go m (inr x) = x
 
 open_is : (x : Stand) → waiting (order_at x) ≡ is_at x
@@ -110,30 +97,22 @@ module _ (s : Service) (good : Good s) (demands : run.Demands s) where
       subst (λ (i : List ℕ). Refuses (conditions_to (defined g l) c) (returned functions i c)) (reached_image s good demands l b)
       (subst (λ (z : List (Bool × ℕ)). Refuses z (returned functions (service_bytes t) c)) (same_conditions t (defined g l) (reached_equal s good demands l b) c)
       (without (refusals_of t c) (returned functions (service_bytes t) c)
-      (subst (λ (r : ReadService). Refuses (of_image r (λ x. refusals_of x c)) (returned functions (service_bytes t) c)) (image_read t h) (call_refuses (service_bytes t) c))))
+      (subst (λ (r : Option Service). Refuses (of_image r (λ x. refusals_of x c)) (returned functions (service_bytes t) c)) (image_read t h) (call_refuses (service_bytes t) c))))
 
   -- what is written at the end of a run, as a run of its own
   packet_read : (l : List ByteCall) (buffer y : List ℕ) → CallsBytes l → Writes functions (images functions image l) (write_packet buffer) y →
-      (e : EventPacket) × (packet_to (defined g l) ≡ SentPacket.Packet e) × (read_packet y ≡ ReadPacket.Packet (Packet.Event e))
+      (e : EventPacket) × (packet_to (defined g l) ≡ Ok e) × (read_packet y ≡ Ok (Packet.Event e))
   packet_read l buffer y b w =
       let calls : List ByteCall = l ++ (write_packet buffer ∷ []) in
-      let z = packet-sent s good demands calls (demands.demand_3 (calls_of (started g) calls) (calls_fit (started g) calls (more l b))) l [] b buffer y refl w in
+      let z = packet-sent s good demands calls (demands.demand_3 (calls_of (started g) calls) (calls_fit (started g) calls (bytes_more l (write_packet buffer) b no_bytes))) l [] b buffer y refl w in
       (z.0, z.1, z.2.read)
-    where
-      more : (m : List ByteCall) → CallsBytes m → CallsBytes (m ++ (write_packet buffer ∷ []))
-      more [] k = (no_bytes, tt)
-      more (c ∷ m) k = (k.0, more m k.1)
 
   picture_read : (l : List ByteCall) (buffer y : List ℕ) → CallsBytes l → Writes functions (images functions image l) (write_picture buffer) y →
-      (v : Picture) × (picture_to (defined g l) ≡ SentPicture.Picture v) × (read_packet y ≡ ReadPacket.Packet (Packet.Picture v))
+      (v : Picture) × (picture_to (defined g l) ≡ Ok v) × (read_packet y ≡ Ok (Packet.Picture v))
   picture_read l buffer y b w =
       let calls : List ByteCall = l ++ (write_picture buffer ∷ []) in
-      let z = picture-sent s good demands calls (demands.demand_3 (calls_of (started g) calls) (calls_fit (started g) calls (more l b))) l [] b buffer y refl w in
+      let z = picture-sent s good demands calls (demands.demand_3 (calls_of (started g) calls) (calls_fit (started g) calls (bytes_more l (write_picture buffer) b no_bytes))) l [] b buffer y refl w in
       (z.0, z.1, z.2.read)
-    where
-      more : (m : List ByteCall) → CallsBytes m → CallsBytes (m ++ (write_picture buffer ∷ []))
-      more [] k = (no_bytes, tt)
-      more (c ∷ m) k = (k.0, more m k.1)
 
   ours_serves : Serves functions image g
   ours_serves = record {
@@ -152,18 +131,18 @@ module _ (s : Service) (good : Good s) (demands : run.Demands s) where
 
 -- a service that a start gave
 
-pub started_good : (a : Arguments) (s : Service) → start_of (config_of a) a.ports a.chargers ≡ Started.Service s → Good s
+pub started_good : (a : Arguments) (s : Service) → start_of (config_of a) a.ports a.chargers ≡ Ok s → Good s
 started_good a s e =
     fits_good a.ports a.chargers s
     (start_fits a.threshold_mw a.unlimited_mv a.unlimited_ma a.limited_mv a.limited_ma a.minimum_present a.minimum_mw a.ports a.chargers s e)
 
-pub started_demands : (a : Arguments) (s : Service) → start_of (config_of a) a.ports a.chargers ≡ Started.Service s → run.Demands s
+pub started_demands : (a : Arguments) (s : Service) → start_of (config_of a) a.ports a.chargers ≡ Ok s → run.Demands s
 started_demands a s e =
     after_start a.threshold_mw a.unlimited_mv a.unlimited_ma a.limited_mv a.limited_ma a.minimum_present a.minimum_mw a.ports a.chargers s e
 
 -- a start
 
-start_serves : (image : List ℕ) (a : Arguments) → start_refused image a ≡ 0 → (c : Config) → config_of a ≡ OptionConfig.Some c →
+start_serves : (image : List ℕ) (a : Arguments) → start_refused image a ≡ 0 → (c : Config) → config_of a ≡ Some c →
     Serves functions (start_call image (config_of a) a.ports a.chargers).bytes (registers a c)
 start_serves image a q c e =
     let z = start_leaves image a.ports a.chargers (config_of a) c e q in
@@ -172,53 +151,28 @@ start_serves image a q c e =
 
 -- bytes of another length
 
-no_service : (b : List ℕ) → eqb (length b) service_length ≡ false → service_from b ≡ ReadService.Refused
+no_service : (b : List ℕ) → eqb (length b) service_length ≡ false → service_from b ≡ None
 unfolding service_from
 no_service b e = rw e refl
 
-no_follower : (b : List ℕ) → eqb (length b) follower_length ≡ false → (follower_from b).ok ≡ false
+no_follower : (b : List ℕ) → eqb (length b) follower_length ≡ false → follower_from b ≡ None
 no_follower b e = rw e refl
 
 service_other : (b : List ℕ) (c : ByteCall) → eqb (length b) service_length ≡ false →
     (returned functions b c ≡ refused_number 21) × (image_after functions b c ≡ b) × (buffer_after functions b c ≡ buffer_in c)
-service_other b (open_event psus chargers kind device detail) e =
-    let q = no_service b e in
-    (ap (λ (r : ReadService). (on_service b r psus chargers (λ s x. open_of s kind device detail x)).number) q, ap (λ (r : ReadService). (on_service b r psus chargers (λ s x. open_of s kind device detail x)).bytes) q, refl)
-service_other b (give_answer psus chargers a) e =
-    let q = no_service b e in
-    (ap (λ (r : ReadService). (on_service b r psus chargers (λ s x. answer_of s a x)).number) q, ap (λ (r : ReadService). (on_service b r psus chargers (λ s x. answer_of s a x)).bytes) q, refl)
-service_other b read_order e = (ap order_call (no_service b e), refl, refl)
-service_other b (write_packet buffer) e =
-    let q = no_service b e in
-    (ap (λ (r : ReadService). (write_packet_call r buffer).number) q, refl, ap (λ (r : ReadService). (write_packet_call r buffer).bytes) q)
-service_other b (write_picture buffer) e =
-    let q = no_service b e in
-    (ap (λ (r : ReadService). (write_picture_call r buffer).number) q, refl, ap (λ (r : ReadService). (write_picture_call r buffer).bytes) q)
+service_other b (open_event psus chargers kind device detail) e = rw (returned, image_after, no_service b e) (refl, refl, refl)
+service_other b (give_answer psus chargers a) e = rw (returned, image_after, no_service b e) (refl, refl, refl)
+service_other b read_order e = rw (returned, image_after, no_service b e) (refl, refl, refl)
+service_other b (write_packet buffer) e = rw (returned, buffer_after, no_service b e) (refl, refl, refl)
+service_other b (write_picture buffer) e = rw (returned, buffer_after, no_service b e) (refl, refl, refl)
 
 desk_other : (b : List ℕ) (c : DeskCall) → eqb (length b) follower_length ≡ false →
     (desk_returned functions b c ≡ refused_number 21) × (desk_after functions b c ≡ b) × (desk_buffer_after functions b c ≡ desk_buffer_in c)
-desk_other b c e = go c
-  where
-    none : (follower_from b).ok ≡ false
-    none = no_follower b e
-
-    reader : (t : Follower → ℕ) → reader_call (follower_from b) t ≡ refused_number 21
-    reader t = ap (λ (x : Bool). cond {A = ℕ} x (t (follower_from b).follower) (refused_number 21)) none
-
-    go : (c : DeskCall) → (desk_returned functions b c ≡ refused_number 21) × (desk_after functions b c ≡ b) × (desk_buffer_after functions b c ≡ desk_buffer_in c)
-    go (take_packet y) = (
-      ap (λ (x : Bool). (cond {A = Called} x (taken_call b (follower_from b).follower (read_packet y)) (refused_call 21 b)).number) none,
-      ap (λ (x : Bool). (cond {A = Called} x (taken_call b (follower_from b).follower (read_packet y)) (refused_call 21 b)).bytes) none,
-      refl,
-    )
-    go read_shown = (reader (λ f. shown_as (state_of f) f.shown), refl, refl)
-    go read_consumer = (reader (λ f. consumer_number (consumer_of f.shown)), refl, refl)
-    go read_tracked = (reader (λ f. tracked_in f.shown), refl, refl)
-    go (write_page buffer) = (
-      ap (λ (x : Bool). (cond {A = Called} x (page_call (page_bytes (page_for (follower_from b).follower)) buffer) (refused_call 21 buffer)).number) none,
-      refl,
-      ap (λ (x : Bool). (cond {A = Called} x (page_call (page_bytes (page_for (follower_from b).follower)) buffer) (refused_call 21 buffer)).bytes) none,
-    )
+desk_other b (take_packet y) e = rw (desk_returned, desk_after, no_follower b e) (refl, refl, refl)
+desk_other b read_shown e = rw (desk_returned, desk_after, no_follower b e) (refl, refl, refl)
+desk_other b read_consumer e = rw (desk_returned, desk_after, no_follower b e) (refl, refl, refl)
+desk_other b read_tracked e = rw (desk_returned, desk_after, no_follower b e) (refl, refl, refl)
+desk_other b (write_page buffer) e = rw (desk_returned, desk_buffer_after, no_follower b e) (refl, refl, refl)
 
 pub promised : Promise functions
 promised = record {

@@ -1,4 +1,5 @@
 -- The second programs are refuted by computed runs: what the definition says there is a number or bytes, and theirs are others.
+use Rattle.std.specs.Prelude.{Ok}
 use mathlib.Core.Path.{◌≡◌, refl, sym, ap, ◌∙◌, subst}
 use mathlib.Core.Bool.{Bool, true, ◌&&◌}
 use mathlib.Core.List.{List, [], ◌∷◌, ◌++◌}
@@ -9,7 +10,7 @@ use lib.Dec.{ltb}
 use borrow.Author.Tests.{ltb-true}
 use lib.ListN.{length, replicate, take, get_or, set}
 use Rattle.power_policy_interface.specs.Limits.{service_length, follower_length}
-use Rattle.power_policy_interface.specs.declared.psu.Result.{Result}
+use Rattle.power_policy_interface.proofs.Conjunction.{and_left, and_right}
 use Rattle.interface_records.specs.Row.{AllBytes}
 use Rattle.interface_display.specs.declared.packet.EventPacket.{EventPacket}
 use Rattle.interface_display.specs.declared.packet.Packet.{Packet}
@@ -23,7 +24,6 @@ use Rattle.wire.specs.Packet as wire
 use Rattle.wire.specs.Packet.{packet_of, picture_after, unconstrained, capability, contract, consumer, consumer_connected, notice_of, notice, event_notices, event_after}
 use Rattle.wire.specs.Parser.{field, number as readField}
 use Rattle.wire.specs.Read.{read_packet}
-use Rattle.wire.specs.declared.packet.ReadPacket.{ReadPacket}
 use Rattle.promise_link.specs.Source.{number_in}
 use Rattle.promise_link.proofs.Lists.{one_packet}
 use Rattle.abstract_calls.specs.Numbers.{closed_number}
@@ -34,8 +34,8 @@ use Rattle.abstract_calls.specs.Functions.{Functions, Arguments, arguments}
 use Rattle.abstract_calls.specs.Definition.{defined, held, return_to, buffer_to}
 use Rattle.abstract_calls.proofs.Lists.{no_bytes}
 use Rattle.abstract_calls.proofs.Results.{refused_low}
-use Rattle.bytes_follower_image.proofs.Notices.{and_left, and_right}
 use Rattle.abi_functions.specs.Ours.{functions}
+use Rattle.promise_calls.proofs.Low.{not_two}
 use Rattle.promise_calls.proofs.Written.{bytes_left}
 use Rattle.promise.specs.Runs.{PacketOf, PictureOf, packet, picture, Comes, NothingAbove, Shows}
 use Rattle.promise.specs.Promise.{start_refused, registers, Link, Serves, Promise}
@@ -158,7 +158,7 @@ closed_one : (defined (g 1) before_packet).number ≡ 1
 unfolding zeros process_psu_event update_current_consumer connect_best connect_new_consumer disconnect_current disconnect_chargers connect_consumer post_consumer_connected update_unconstrained_state
 closed_one = refl
 
-closed_ok : (defined (g 1) before_packet).answer ≡ Result.Ok
+closed_ok : (defined (g 1) before_packet).answer ≡ Ok tt
 unfolding zeros process_psu_event update_current_consumer connect_best connect_new_consumer disconnect_current disconnect_chargers connect_consumer post_consumer_connected update_unconstrained_state
 closed_ok = refl
 
@@ -190,11 +190,11 @@ invented = refl
 abbrev p0 : Picture
 p0 = record { number = 0; display = held (g 1) calls 0 }
 
-read_0 : read_packet y0 ≡ ReadPacket.Packet (Packet.Picture p0)
+read_0 : read_packet y0 ≡ Ok (Packet.Picture p0)
 unfolding wire.packet packet_of wire.picture readField read_number field picture_after unconstrained zeros
 read_0 = refl
 
-read_1 : (e : EventPacket) × (read_packet y1 ≡ ReadPacket.Packet (Packet.Event e)) × (e.number ≡ 1)
+read_1 : (e : EventPacket) × (read_packet y1 ≡ Ok (Packet.Event e)) × (e.number ≡ 1)
 unfolding wire.packet packet_of wire.event readField read_number field event_after event_notices notice notice_of consumer_connected consumer contract capability
 read_1 = (record { number = 1; answer = 0; orders = 2; notices = _ }, refl, refl)
 
@@ -254,7 +254,7 @@ module _ (f : Functions) (promise : Promise f) where
     number = closed_one ∙ e;
   }
 
-  packet_ok : (n : ℕ) (e : 1 ≡ n) → (defined (g 1) (packet_at n e).before).answer ≡ Result.Ok
+  packet_ok : (n : ℕ) (e : 1 ≡ n) → (defined (g 1) (packet_at n e).before).answer ≡ Ok tt
   unfolding packet_at
   packet_ok n e = closed_ok
 
@@ -270,7 +270,7 @@ module _ (f : Functions) (promise : Promise f) where
       (y1, inl refl, (packet_at j e, packet_ok j e))
 
   -- a packet or picture of the run has the number that is read of it
-  numbered : (n : ℕ) (y : List ℕ) (p : Packet) → read_packet y ≡ ReadPacket.Packet p → PacketOf f image (g 1) calls n y ⊎ PictureOf f image (g 1) calls n y → n ≡ number_in p
+  numbered : (n : ℕ) (y : List ℕ) (p : Packet) → read_packet y ≡ Ok p → PacketOf f image (g 1) calls n y ⊎ PictureOf f image (g 1) calls n y → n ≡ number_in p
   numbered n y p r (inl w) =
       let b : CallsBytes w.before = bytes_left w.before (write_packet w.buffer ∷ w.rest) (subst CallsBytes w.among calls_bytes) in
       let z = served.packet_read w.before w.buffer y b w.writes in
@@ -378,13 +378,12 @@ not_port_0 p =
 
 not_idle : Promise orders_nothing → ⊥
 not_idle p =
-    let z : ◌≡◌ {A = ℕ} (closed_number Result.Ok 0) 844446404968448257 = (serves orders_nothing p 1 accepted_1).returns [] opening tt ∙ first_order in
+    let z : ◌≡◌ {A = ℕ} (closed_number (Ok tt) 0) 844446404968448257 = (serves orders_nothing p 1 accepted_1).returns [] opening tt ∙ first_order in
     omega (arith, z)
 
 not_turning_back : (n : ℕ) → Promise (turns_back n) → ⊥
 not_turning_back n p =
-    let z : ◌≡◌ {A = ℕ} 0 1 = sym (refused_low n) ∙ ap (λ (m : ℕ). m % 256) ((serves (turns_back n) p 1 accepted_1).returns [] opening tt ∙ first_order) in
-    omega (arith, z)
+    not_two (refused_low n) (ap (λ (m : ℕ). m % 256) ((serves (turns_back n) p 1 accepted_1).returns [] opening tt ∙ first_order)) refl
 
 -- a Detached leaves what an update does
 not_full : Promise stays_full → ⊥

@@ -1,12 +1,11 @@
 -- The whole claim. Its one value is `claimed` (proofs/Claimed.antt).
-use Rattle.std.specs.Prelude.{Bool, List, ◌↔◌, ◌≡◌, ℕ, ◌≤◌, replicate}
+use Rattle.std.specs.Prelude.{Bool, List, ◌↔◌, ◌≡◌, ℕ, ◌≤◌, replicate, Some}
 use Rattle.power_policy_interface.specs.Limits.{service_length}
 use Rattle.interface_display.specs.Set.{SetLaws}
 use Rattle.power_policy_service.specs.Config.{rust_default, default_config}
 use Rattle.power_policy_service.specs.PairOrder.{PairOrder}
 use Rattle.power_policy_service.specs.TypeC.{TypeC}
 use Rattle.power_policy_service.specs.declared.config.Config.{Config}
-use Rattle.power_policy_service.specs.declared.config.OptionConfig.{OptionConfig}
 use Rattle.abstract_policy.specs.Refusals.{rank, Applies, First, Base, Lowest}
 use Rattle.abstract_desk.specs.Takes.{paper_after, EachBytes}
 use Rattle.abstract_page.specs.Page.{Fits}
@@ -38,7 +37,7 @@ pub record Claim : Type 0 where
   -- TST-4 to TST-11: so that none of the testers' programs does
   pub testers : Testers
   -- what the definition's words come to, of whatever a start accepts
-  pub meaning : (image : List ℕ) (a : Arguments) → start_refused image a ≡ 0 → (c : Config) → config_of a ≡ OptionConfig.Some c → Meaning (registers a c)
+  pub meaning : (image : List ℕ) (a : Arguments) → start_refused image a ≡ 0 → (c : Config) → config_of a ≡ Some c → Meaning (registers a c)
   -- REF-2, the lowest that applies: among the base's numbers the order in which conditions are looked at is that of size
   pub rank_size : (n m : ℕ) → Base n → Base m → (rank n ≤ rank m) ↔ (n ≤ m)
   pub lowest : (l : List (Bool × ℕ)) (n : ℕ) → ((m : ℕ) → Applies m l → Base m) → First l n → Lowest l n

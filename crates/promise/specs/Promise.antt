@@ -4,7 +4,7 @@
 -- Ours keep it (proofs/Promised.antt), and only one behaviour does (Same.antt, proofs/OnlyOne.antt). The whole claim is Claim.antt: beside Promise and Meaning
 -- the bytes themselves (Layout.antt), the public documents, and the programs that do not keep it (Testers.antt).
 --
--- To read what is cited, in this order; 2,060 lines, none of them the machine's (tests/reach.py):
+-- To read what is cited, in this order; 2,054 lines, none of them the machine's (tests/reach.py):
 --   promise      here, then Runs.antt: what the link hands over and what is shown
 --   calls        abstract_calls specs/Functions.antt, ServiceCall.antt, DeskCall.antt (each call, of any program and of the definition), Calls.antt, Definition.antt
 --   run          abstract_policy specs/Policy.antt, Returns.antt, Orders.antt, Given.antt
@@ -17,7 +17,7 @@
 --   follower     abstract_desk specs/Follower.antt, Takes.antt
 --   page         abstract_page specs/Page.antt, Text.antt, ReadPage.antt
 --   link         `Link`, below
-use Rattle.std.specs.Prelude.{ℕ, ◌+◌, ◌*◌, ◌%◌, ◌≤◌, false, cond, List, [], ◌∷◌, ◌++◌, ◌⊎◌, ◌↔◌, ◌≡◌, eqb, length}
+use Rattle.std.specs.Prelude.{ℕ, ◌+◌, ◌*◌, ◌%◌, ◌≤◌, false, cond, List, [], ◌∷◌, ◌++◌, ◌⊎◌, ◌↔◌, ◌≡◌, eqb, length, Ok, Some}
 use Rattle.power_policy_interface.specs.Limits.{max_notices, window, service_length, follower_length}
 use Rattle.interface_records.specs.Row.{AllBytes}
 use Rattle.interface_display.specs.Notices.{listed}
@@ -25,17 +25,13 @@ use Rattle.interface_display.specs.declared.packet.EventPacket.{EventPacket}
 use Rattle.interface_display.specs.declared.packet.Packet.{Packet}
 use Rattle.interface_display.specs.declared.packet.Picture.{Picture}
 use Rattle.power_policy_service.specs.declared.config.Config.{Config}
-use Rattle.power_policy_service.specs.declared.config.OptionConfig.{OptionConfig}
 use Rattle.abstract_policy.specs.Refusals.{first_refused, First}
 use Rattle.abstract_policy.specs.Chosen.{Choices}
 use Rattle.abstract_policy.specs.Orders.{orders_of, Counted}
 use Rattle.abstract_policy.specs.Policy.{between, started}
 use Rattle.abstract_policy.specs.Returns.{packet_to, picture_to}
 use Rattle.abstract_policy.specs.declared.state.Registration.{Registration}
-use Rattle.abstract_policy.specs.declared.outcome.SentPacket.{SentPacket}
-use Rattle.abstract_policy.specs.declared.outcome.SentPicture.{SentPicture}
 use Rattle.wire.specs.Read.{read_packet}
-use Rattle.wire.specs.declared.packet.ReadPacket.{ReadPacket}
 use Rattle.abstract_page.specs.Page.{entries_of}
 use Rattle.abstract_calls.specs.Numbers.{refused_number, done_number}
 use Rattle.abstract_calls.specs.OneToOne.{AnswerFits, DisplayFits}
@@ -96,11 +92,11 @@ pub record Serves (f : Functions) (image : List ℕ) (g : Registration) : Type 0
   -- PKT-2: a packet written is that event's,
   pub packet_read :
       (l : List ByteCall) (buffer y : List ℕ) → CallsBytes l → Writes f (images f image l) (write_packet buffer) y →
-      (e : EventPacket) × (packet_to (defined g l) ≡ SentPacket.Packet e) × (read_packet y ≡ ReadPacket.Packet (Packet.Event e))
+      (e : EventPacket) × (packet_to (defined g l) ≡ Ok e) × (read_packet y ≡ Ok (Packet.Event e))
   -- a picture what is held at that number: both are read.
   pub picture_read :
       (l : List ByteCall) (buffer y : List ℕ) → CallsBytes l → Writes f (images f image l) (write_picture buffer) y →
-      (v : Picture) × (picture_to (defined g l) ≡ SentPicture.Picture v) × (read_packet y ≡ ReadPacket.Packet (Packet.Picture v))
+      (v : Picture) × (picture_to (defined g l) ≡ Ok v) × (read_packet y ≡ Ok (Packet.Picture v))
   -- An image stays so many bytes, so that it can be started anew.
   pub size : (l : List ByteCall) → CallsBytes l → length (images f image l) ≡ service_length
   pub bytes : (l : List ByteCall) → CallsBytes l → AllBytes (images f image l)
@@ -115,7 +111,7 @@ pub record Starts (f : Functions) (image : List ℕ) (a : Arguments) : Type 0 wh
   -- refused, it leaves the bytes unchanged;
   pub turned_back : (start_refused image a ≡ 0 → ⊥) → (f.start image a).bytes ≡ image
   -- done, the demands hold of what it left, whatever the bytes were before.
-  pub serves : start_refused image a ≡ 0 → (c : Config) → config_of a ≡ OptionConfig.Some c → Serves f (f.start image a).bytes (registers a c)
+  pub serves : start_refused image a ≡ 0 → (c : Config) → config_of a ≡ Some c → Serves f (f.start image a).bytes (registers a c)
 
 -- The desk, whatever bytes have been taken and are: every list of its calls, refused ones included, is as the abstract follower has it.
 pub record Follows (f : Functions) (x : List ℕ) : Type 0 where
@@ -168,7 +164,7 @@ pub record Meaning (g : Registration) : Type 0 where
   pub counted : (l : List ByteCall) → Counted (defined g l).stand (defined g l).orders (orders_of (started g) [] (calls_of (started g) l))
   -- PKT-8: the notices of the packet are the definition's, whole, 0 to 4.
   pub notices :
-      (l : List ByteCall) (e : EventPacket) → CallsBytes l → packet_to (defined g l) ≡ SentPacket.Packet e →
+      (l : List ByteCall) (e : EventPacket) → CallsBytes l → packet_to (defined g l) ≡ Ok e →
       (listed e.notices ≡ (defined g l).notices) × (length (defined g l).notices ≤ max_notices)
   -- DEM-2c: the chosen consumer is none if no port is eligible, else the earliest with most milliwatts, the current one winning ties; and it is held when the
   -- event has closed without error.

@@ -1,15 +1,12 @@
 -- What a run wrote and the link hands over, and what a follower's readers show, of any functions. A run is what a start left, `image`, with what it
 -- registered, g, and the calls after it.
-use Rattle.std.specs.Prelude.{ℕ, ◌+◌, ◌/◌, ◌≤◌, ◌<◌, List, [], ◌∷◌, ◌++◌, ◌⊎◌, ◌≡◌, length, take}
+use Rattle.std.specs.Prelude.{ℕ, ◌+◌, ◌/◌, ◌≤◌, ◌<◌, List, [], ◌∷◌, ◌++◌, ◌⊎◌, ◌≡◌, length, take, Err, None, Ok}
 use Rattle.power_policy_interface.specs.Limits.{page_length}
-use Rattle.power_policy_interface.specs.declared.psu.Result.{Result}
 use Rattle.interface_display.specs.Providers.{none}
 use Rattle.interface_display.specs.declared.Display.{Display}
-use Rattle.interface_display.specs.declared.OptionAvailableConsumer.{OptionAvailableConsumer}
 use Rattle.interface_display.specs.declared.State.{State}
 use Rattle.abstract_policy.specs.declared.state.Registration.{Registration}
 use Rattle.wire.specs.Read.{read_packet}
-use Rattle.wire.specs.declared.packet.ReadPacket.{ReadPacket}
 use Rattle.abstract_page.specs.Page.{Entry, lost_entries, shown_entries}
 use Rattle.abstract_page.specs.ReadPage.{read_page}
 use Rattle.abstract_calls.specs.Numbers.{lost_number, shown_number, consumer_number, tracked_number}
@@ -41,7 +38,7 @@ module _ (f : Functions) (image : List ℕ) (g : Registration) (calls : List Byt
   pub data Handed (y : List ℕ) : Type 0 where
     packet : (n : ℕ) → PacketOf n y → Handed y
     picture : (n : ℕ) → PictureOf n y → Handed y
-    turned_back : (n : ℕ) → read_packet y ≡ ReadPacket.Refused n → Handed y
+    turned_back : (n : ℕ) → read_packet y ≡ Err n → Handed y
 
   -- in any order and however often
   abbrev pub AllHanded : List (List ℕ) → Type 0
@@ -57,7 +54,7 @@ module _ (f : Functions) (image : List ℕ) (g : Registration) (calls : List Byt
   -- LNK-6: each event packet from n + 1 to n + k is, without error
   abbrev pub Comes : ℕ → ℕ → List (List ℕ) → Type 0
   Comes n k l =
-      (j : ℕ) → n < j → j ≤ n + k → (y : List ℕ) × In y l × ((w : PacketOf j y) × ((defined g w.before).answer ≡ Result.Ok))
+      (j : ℕ) → n < j → j ≤ n + k → (y : List ℕ) × In y l × ((w : PacketOf j y) × ((defined g w.before).answer ≡ (Ok tt)))
 
   -- nothing above this number is: no packet and no picture
   abbrev pub NothingAbove : ℕ → List (List ℕ) → Type 0
@@ -79,7 +76,7 @@ ShownAs f b s n d = (f.shown b ≡ shown_number s n d) × Says f b (shown_entrie
 
 pub record Lost (f : Functions) (b : List ℕ) : Type 0 where
   pub shown : f.shown b ≡ lost_number
-  pub consumer : f.consumer b ≡ consumer_number OptionAvailableConsumer.None
+  pub consumer : f.consumer b ≡ consumer_number None
   pub tracked : f.tracked b ≡ tracked_number none
   -- S1-5: hyphens on all but the state line
   pub page : Says f b lost_entries

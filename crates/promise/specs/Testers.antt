@@ -1,8 +1,6 @@
 -- TST-4 to TST-11, the testers' second programs: each is ours but for one function, or for the three readers and the page.
-use Rattle.std.specs.Prelude.{ℕ, ◌-◌, cond, List, ◌++◌, eqb, length, drop, get_or, set}
-use Rattle.power_policy_interface.specs.declared.psu.Result.{Result}
+use Rattle.std.specs.Prelude.{ℕ, ◌-◌, cond, List, ◌++◌, eqb, length, drop, get_or, set, None, Ok}
 use Rattle.interface_display.specs.Providers.{none}
-use Rattle.interface_display.specs.declared.OptionAvailableConsumer.{OptionAvailableConsumer}
 use Rattle.abstract_page.specs.Page.{Entry, lines, lost_entries}
 use Rattle.abstract_calls.specs.Called.{Called, called}
 use Rattle.abstract_calls.specs.Lent.{page_call}
@@ -49,7 +47,7 @@ with_readers s c t l =
 
 -- TST-4: a follower that says lost from the first packet
 abbrev pub always_lost : Functions
-always_lost = with_readers lost_number (consumer_number OptionAvailableConsumer.None) (tracked_number none) lost_entries
+always_lost = with_readers lost_number (consumer_number None) (tracked_number none) lost_entries
 
 -- TST-5: one that shows pictures and ignores events: a packet of kind 1 leaves the follower as it was
 abbrev pub deaf : Functions
@@ -73,7 +71,7 @@ always_port0 =
 
 -- TST-9: a service that orders nothing: every event closes at once
 abbrev pub orders_nothing : Functions
-orders_nothing = with_open (λ b psus chargers kind device detail. called (closed_number Result.Ok 0) b)
+orders_nothing = with_open (λ b psus chargers kind device detail. called (closed_number (Ok tt) 0) b)
 
 -- TST-10: an entry that turns every event back, with whatever number
 abbrev pub turns_back : ℕ → Functions

@@ -1,3 +1,4 @@
+pub mod Low
 pub mod Images
 pub mod Returns
 pub mod Turned

@@ -1,4 +1,5 @@
 -- Along a run every order, answer and display is in the range of a result's fields: the machine is well formed, and what is held changes only at a close.
+use Rattle.std.specs.Prelude.{Err, None, Ok, Option, Some}
 use mathlib.Core.Path.{◌≡◌, refl, sym, ap, ◌∙◌, subst}
 use mathlib.Core.Bool.{Bool, true, false, cond, ◌&&◌}
 use mathlib.Core.List.{List, [], ◌∷◌, ◌++◌, append_assoc}
@@ -10,9 +11,9 @@ use Rattle.power_policy_interface.specs.Psu.{mismatch_of}
 use Rattle.power_policy_interface.specs.Capability.{capability_fits}
 use Rattle.power_policy_interface.specs.declared.capability.PowerCapability.{PowerCapability}
 use Rattle.power_policy_interface.specs.declared.psu.Error.{Error}
-use Rattle.power_policy_interface.specs.declared.psu.OptionMismatch.{OptionMismatch}
-use Rattle.power_policy_interface.specs.declared.psu.Result.{Result}
-use Rattle.interface_display.specs.declared.OptionAvailableConsumer.{OptionAvailableConsumer}
+use Rattle.abstract_policy.specs.declared.order.Order.{Order}
+use Rattle.interface_display.specs.declared.AvailableConsumer.{AvailableConsumer}
+use Rattle.power_policy_interface.specs.declared.psu.Mismatch.{Mismatch}
 use Rattle.abstract_policy.specs.Given.{event_of, result_of}
 use Rattle.abstract_policy.specs.State.{display_of}
 use Rattle.abstract_policy.specs.Action.{Interaction, done, ask}
@@ -20,7 +21,6 @@ use Rattle.abstract_policy.specs.Interaction.{event}
 use Rattle.abstract_policy.specs.Refusals.{no_answer}
 use Rattle.abstract_policy.specs.Policy.{Call, open_event, give_answer, write_packet, write_picture, Stand, between, at, Policy, started, proceeds, open_refused, answers, policy_after, order_at, held_at, policies}
 use Rattle.abstract_policy.specs.declared.state.InternalState.{InternalState}
-use Rattle.abstract_policy.specs.declared.order.OptionOrder.{OptionOrder}
 use Rattle.abstract_policy.proofs.Chosen.{policies_append}
 use Rattle.machine_state.specs.Phase.{order_of}
 use Rattle.machine_state.specs.declared.phase.Leaver.{Leaver}
@@ -51,9 +51,9 @@ capability c e =
 byte : (i n m : ℕ) → ltb i n ≡ true → n ≤ m → m ≤ 16 → i < 256
 byte i n m e h k = omega (arith, ltb-true i n e, h, k)
 
-abbrev InOrder : OptionOrder → Type 0
-InOrder OptionOrder.None = Unit {0}
-InOrder (OptionOrder.Some o) = OrderFits o
+abbrev InOrder : Option Order → Type 0
+InOrder None = Unit {0}
+InOrder (Some o) = OrderFits o
 
 order_fits : (ports chargers : ℕ) (p : Phase) → ports ≤ 16 → chargers ≤ 8 → phase_fits ports chargers p ≡ true → PhaseTyped p → InOrder (order_of p)
 order_fits ports chargers (Phase.Closed a) h k e t = tt
@@ -70,9 +70,9 @@ order_fits ports chargers (Phase.Connecting (Stage.Attaching i) new) h k e t =
     (byte i chargers 8 (and_left (ltb i chargers) (ltb new.psu ports) e) k (omega arith), capability new.consumer_power_capability.capability t)
 order_fits ports chargers (Phase.Providing p c) h k e t = (byte p ports 16 e h (omega arith), capability c.capability t)
 
-mismatch_fits_lem : (m : OptionMismatch) → mismatch_fits m ≡ true → MismatchFits m
-mismatch_fits_lem OptionMismatch.None e = tt
-mismatch_fits_lem (OptionMismatch.Some m) e =
+mismatch_fits_lem : (m : Option Mismatch) → mismatch_fits m ≡ true → MismatchFits m
+mismatch_fits_lem None e = tt
+mismatch_fits_lem (Some m) e =
     let l = leb-true m.expected 15 (and_right (ltb 0 m.expected) (leb m.expected 15) e) in
     (ltb-true 0 m.expected (and_left (ltb 0 m.expected) (leb m.expected 15) e), omega (arith, l))
 
@@ -89,16 +89,16 @@ error_fits_lem Error.Charger h = tt
 error_fits_lem Error.Failed h = tt
 
 answer_fits : (ports chargers : ℕ) (p : Phase) → phase_fits ports chargers p ≡ true → AnswerFits (answer_in p)
-answer_fits ports chargers (Phase.Closed Result.Ok) e = tt
-answer_fits ports chargers (Phase.Closed (Result.Err x)) e = error_fits_lem x e
+answer_fits ports chargers (Phase.Closed (Ok tt)) e = tt
+answer_fits ports chargers (Phase.Closed (Err x)) e = error_fits_lem x e
 answer_fits ports chargers (Phase.Leaving i p f) e = tt
 answer_fits ports chargers (Phase.Switching l old f new) e = tt
 answer_fits ports chargers (Phase.Connecting s new) e = tt
 answer_fits ports chargers (Phase.Providing p c) e = tt
 
-consumer_fits_lem : (ports : ℕ) (c : OptionAvailableConsumer) → ports ≤ 16 → consumer_fits ports c ≡ true → ConsumerTyped c → ConsumerFits c
-consumer_fits_lem ports OptionAvailableConsumer.None h e t = tt
-consumer_fits_lem ports (OptionAvailableConsumer.Some c) h e t = (byte c.psu ports 16 e h (omega arith), capability c.consumer_power_capability.capability t)
+consumer_fits_lem : (ports : ℕ) (c : Option AvailableConsumer) → ports ≤ 16 → consumer_fits ports c ≡ true → ConsumerTyped c → ConsumerFits c
+consumer_fits_lem ports None h e t = tt
+consumer_fits_lem ports (Some c) h e t = (byte c.psu ports 16 e h (omega arith), capability c.consumer_power_capability.capability t)
 
 state_fits_lem : (ports : ℕ) (s : InternalState) → ports ≤ 16 → StateGood ports s → DisplayFits (display_of s)
 state_fits_lem ports s h g =
@@ -176,15 +176,8 @@ module _ (s : Service) (good : Good s) (demands : run.Demands s) where
       go between e =
           closed_in_range (services s (m ++ (c ∷ []))) (after (m ++ (c ∷ []))) (services_good (m ++ (c ∷ [])) s f good) (demands.demand_2 (m ++ (c ∷ [])) f) e
       go (at n o k) e =
-          subst (λ (x : InternalState). DisplayFits (display_of x))
-          (sym
-          (ap (λ (x : Policy). x.state) (policies_append (started s.registration) m (c ∷ []))
-          ∙ (after_same (after m) c).same (λ z. absurd (subst IsAt (sym e ∙ (ap (λ (x : Policy). x.stand) (policies_append (started s.registration) m (c ∷ [])) ∙ z)) tt))))
-          h
-        where
-          IsAt : Stand → Type 0
-          IsAt between = ⊥
-          IsAt (at n o k) = Unit {0}
+          let a : after (m ++ (c ∷ [])) ≡ policy_after (after m) c = policies_append (started s.registration) m (c ∷ []) in
+          subst (λ (x : InternalState). DisplayFits (display_of x)) (sym (ap (λ (x : Policy). x.state) a ∙ (after_same (after m) c).same (λ z. cc))) h
 
   held_from : (l m : List Call) (n : ℕ) → CallsFit (m ++ l) → DisplayFits (display_of (after m).state) → DisplayFits (held_at (after m) l n)
   held_from [] m n f h = h

@@ -1,5 +1,6 @@
 -- The follower's image through takes: the bytes of a follower that has an image are read as it, so that a take leaves the bytes of the follower after
 -- it. It still has an image, since a packet that is read from bytes or that the link carries is well formed, and bytes that are turned back change nothing.
+use Rattle.std.specs.Prelude.{Err, Ok, Option, Result, Some}
 use mathlib.Core.Path.{◌≡◌, refl, sym, ap, ◌∙◌, subst}
 use mathlib.Core.Bool.{Bool, true, cond}
 use mathlib.Core.List.{List, [], ◌∷◌}
@@ -9,7 +10,7 @@ use borrow.Author.Tests.{eq-eqb}
 use Rattle.power_policy_interface.specs.Limits.{follower_length}
 use Rattle.interface_records.specs.Row.{AllBytes}
 use Rattle.wire.specs.Read.{read_packet}
-use Rattle.wire.specs.declared.packet.ReadPacket.{ReadPacket}
+use Rattle.interface_display.specs.declared.packet.Packet.{Packet}
 use Rattle.abstract_desk.specs.Takes.{EachBytes}
 use Rattle.desk_follower.specs.Follower.{fresh, taken}
 use Rattle.desk_follower.specs.declared.Follower.{Follower}
@@ -25,10 +26,9 @@ use Rattle.abstract_calls.specs.DeskCall.{DeskCall, take_packet, read_shown, rea
 use Rattle.abstract_calls.specs.Functions.{Functions}
 use Rattle.bytes_follower_image.specs.Fits.{image_fits}
 use Rattle.bytes_follower_image.specs.Image.{follower_bytes, follower_from}
-use Rattle.bytes_follower_image.specs.declared.ReadFollower.{ReadFollower}
 use Rattle.bytes_follower_image.proofs.OneImage.{follower_length_lem, follower_read_write, fresh_fits}
 use Rattle.bytes_follower_image.proofs.Takes as image
-use Rattle.bytes_calls.specs.Calls.{put_follower, taken_call, take_call, follower_start_call}
+use Rattle.bytes_calls.specs.Calls.{put_follower, taken_call, take_on, take_call, follower_start_call}
 use Rattle.abi_functions.specs.Ours.{functions}
 
 -- one take
@@ -36,14 +36,13 @@ use Rattle.abi_functions.specs.Ours.{functions}
 put_is : (f g : Follower) → put_follower (follower_bytes f) g ≡ follower_bytes g
 put_is f g = ap (λ (x : Bool). cond x (follower_bytes g) (follower_bytes f)) (eq-eqb (length (follower_bytes f)) follower_length (follower_length_lem f))
 
-taken_bytes : (f : Follower) (y : ReadPacket) → (taken_call (follower_bytes f) f y).bytes ≡ follower_bytes (taken_read f y)
-taken_bytes f (ReadPacket.Refused n) = refl
-taken_bytes f (ReadPacket.Packet p) = put_is f (taken f p)
+taken_bytes : (f : Follower) (y : Result Packet ℕ) → (taken_call (follower_bytes f) f y).bytes ≡ follower_bytes (taken_read f y)
+taken_bytes f (Err n) = refl
+taken_bytes f (Ok p) = put_is f (taken f p)
 
 take_bytes_lem : (f : Follower) (x : List ℕ) → image_fits f ≡ true → (take_call (follower_bytes f) x).bytes ≡ follower_bytes (take_bytes f x)
 take_bytes_lem f x h =
-    ap (λ (r : ReadFollower). (cond {A = Called} r.ok (taken_call (follower_bytes f) r.follower (read_packet x)) (refused_call 21 (follower_bytes f))).bytes)
-    (follower_read_write f h)
+    ap (λ (r : Option Follower). (take_on (follower_bytes f) r x).bytes) (follower_read_write f h)
     ∙ taken_bytes f (read_packet x)
 
 -- a start
@@ -64,9 +63,9 @@ AllKeep (x ∷ l) = Keeps x × AllKeep l
 bytes_keep : (x : List ℕ) → AllBytes x → Keeps x
 bytes_keep x a = record { fits = λ f h. go f h (read_packet x) refl }
   where
-    go : (f : Follower) → image_fits f ≡ true → (r : ReadPacket) → read_packet x ≡ r → image_fits (taken_read f r) ≡ true
-    go f h (ReadPacket.Refused n) e = h
-    go f h (ReadPacket.Packet p) e = image.take_fits f x p h a e
+    go : (f : Follower) → image_fits f ≡ true → (r : Result Packet ℕ) → read_packet x ≡ r → image_fits (taken_read f r) ≡ true
+    go f h (Err n) e = h
+    go f h (Ok p) e = image.take_fits f x p h a e
 
 pub each_keeps : (l : List (List ℕ)) → EachBytes l → AllKeep l
 each_keeps [] b = tt
@@ -77,9 +76,9 @@ handed_keeps : (source : Source) (x : List ℕ) → Carried source x → Keeps x
 handed_keeps source x (copy p w e) =
     record {
       fits = λ f h.
-          subst (λ (y : ReadPacket). image_fits (taken_read f y) ≡ true) (sym (read_back source p x w e)) (image.packet_fits f p h (source.fits p w));
+          subst (λ (y : Result Packet ℕ). image_fits (taken_read f y) ≡ true) (sym (read_back source p x w e)) (image.packet_fits f p h (source.fits p w));
     }
-handed_keeps source x (turned_back n e) = record { fits = λ f h. subst (λ (y : ReadPacket). image_fits (taken_read f y) ≡ true) (sym e) h }
+handed_keeps source x (turned_back n e) = record { fits = λ f h. subst (λ (y : Result Packet ℕ). image_fits (taken_read f y) ≡ true) (sym e) h }
 
 pub all_keep : (source : Source) (l : List (List ℕ)) → AllCarried source l → AllKeep l
 all_keep source [] q = tt
@@ -121,5 +120,5 @@ module _ (b : List ℕ) (e : length b ≡ follower_length) (l : List DeskCall) (
   pub desk_fits : image_fits (follower_after (packets_of l)) ≡ true
   desk_fits = takes_fit (packets_of l) fresh a fresh_fits
 
-  pub desk_read : follower_from (desk functions b l) ≡ record { ok = true; follower = follower_after (packets_of l) }
+  pub desk_read : follower_from (desk functions b l) ≡ Some (follower_after (packets_of l))
   desk_read = ap follower_from desk_is ∙ follower_read_write (follower_after (packets_of l)) desk_fits

@@ -1,5 +1,6 @@
 -- What a write of a run has written are the bytes of the packet or picture that the definition has there: low byte 3 comes from a write that is not turned
 -- back, and the length of at most 64 in the next byte is that of the bytes at the front of the buffer.
+use Rattle.std.specs.Prelude.{Err, Ok, Result}
 use mathlib.Core.Path.{◌≡◌, refl, sym, ap, ◌∙◌, subst}
 use mathlib.Core.Bool.{Bool, true, false, cond}
 use mathlib.Core.List.{List, [], ◌∷◌, ◌++◌, append_assoc}
@@ -17,22 +18,18 @@ use Rattle.abstract_policy.specs.Policy as policy
 use Rattle.abstract_policy.specs.Policy.{Call, Policy, started, policies}
 use Rattle.abstract_policy.specs.Returns.{packet_to, picture_to}
 use Rattle.abstract_policy.specs.declared.state.Registration.{Registration}
-use Rattle.abstract_policy.specs.declared.outcome.SentPacket.{SentPacket}
-use Rattle.abstract_policy.specs.declared.outcome.SentPicture.{SentPicture}
 use Rattle.abstract_policy.proofs.Chosen.{policies_append}
 use Rattle.machine_service.specs.declared.Service.{Service}
 use Rattle.wire.specs.Bytes.{packet_bytes}
 use Rattle.wire.specs.Read.{read_packet}
-use Rattle.wire.specs.declared.packet.ReadPacket.{ReadPacket}
 use Rattle.wire.proofs.Lengths.{packet_length}
-use Rattle.wire_writer.specs.declared.Written.{Written}
 use Rattle.promise_link.proofs.Lists.{read_back}
 use Rattle.promise_run.specs.Demands as run
 use Rattle.promise_run.specs.Demands.{OnLink}
 use Rattle.promise_run.specs.Run as runs
 use Rattle.promise_run.specs.Run.{after_call, services}
 use Rattle.abstract_calls.specs.Lent.{written_as, written_call, packet_call, picture_call}
-use Rattle.abstract_calls.specs.Numbers.{refused_number, written_number}
+use Rattle.abstract_calls.specs.Numbers.{written_number}
 use Rattle.abstract_calls.specs.ServiceCall.{ByteCall, write_packet, write_picture, in_buffer}
 use Rattle.abstract_calls.specs.Calls.{buffer_after, images, CallsBytes, Writes}
 use Rattle.abstract_calls.specs.Definition.{call_of, calls_of, defined}
@@ -40,10 +37,8 @@ use Rattle.abstract_calls.proofs.Results.{refused_low, written_length}
 use Rattle.bytes_service_image.specs.Image.{service_bytes}
 use Rattle.promise_invariant.proofs.Good.{Good}
 use Rattle.abi_functions.specs.Ours.{functions}
+use Rattle.promise_calls.proofs.Low.{not_two}
 use Rattle.promise_calls.proofs.Reached.{reached_equal, reached_returns, reached_buffers}
-
-refused_not : (n : ℕ) → refused_number n % 256 ≡ 3 → ⊥
-refused_not n e = let q : ◌≡◌ {A = ℕ} 0 3 = sym (refused_low n) ∙ e in omega (arith, q)
 
 -- so many bytes of the buffer are those written
 front : (bytes buffer : List ℕ) → length bytes ≤ 64 → 64 ≤ length buffer → take (written_number (length bytes) / 256 % 256) (sets buffer 0 bytes) ≡ bytes
@@ -78,7 +73,7 @@ module _ (s : Service) (good : Good s) (demands : run.Demands s) (calls : List B
   pub record Sent (y : List ℕ) (p : Packet) : Type 0 where
     pub written : on.source.Written p
     pub bytes : y ≡ packet_bytes p
-    pub read : read_packet y ≡ ReadPacket.Packet p
+    pub read : read_packet y ≡ Ok p
 
   module _ (before rest : List ByteCall) (b : CallsBytes before) where
     -- a write of the run: its packet is among what the run wrote
@@ -88,7 +83,7 @@ module _ (s : Service) (good : Good s) (demands : run.Demands s) (calls : List B
     sent w c p buffer y among is told e f = go (ltb (length buffer) 64) refl is e f
       where
         number : Bool → ℕ
-        number t = written_as (cond t (Written.Refused 29) (Written.Length (length (packet_bytes p))))
+        number t = written_as (cond t (Err 29) (Ok (length (packet_bytes p))))
 
         wrote : call_of (defined g before) w ≡ c ∷ [] → runs.HasSent s (calls_of (started g) calls) p
         wrote q =
@@ -98,14 +93,14 @@ module _ (s : Service) (good : Good s) (demands : run.Demands s) (calls : List B
 
         go : (t : Bool) → ltb (length buffer) 64 ≡ t → call_of (defined g before) w ≡ cond t [] (c ∷ []) → number t % 256 ≡ 3 →
             y ≡ take (number t / 256 % 256) (cond t buffer (sets buffer 0 (packet_bytes p))) → Sent y p
-        go true t q h z = absurd (refused_not 29 h)
+        go true t q h z = absurd (not_two (refused_low 29) h refl)
         go false t q h z =
             let v : on.source.Written p = (on.written p).1 (wrote q) in
             let k : y ≡ packet_bytes p = z ∙ front (packet_bytes p) buffer (packet_length p (on.source.fits p v)) (ltb-false (length buffer) 64 t) in
             record { written = v; bytes = k; read = read_back on.source p y v k }
 
     pub packet-sent : (buffer y : List ℕ) → calls ≡ before ++ (write_packet buffer ∷ rest) → Writes functions (images functions (service_bytes s) before) (write_packet buffer) y →
-        (e : EventPacket) × (packet_to (defined g before) ≡ SentPacket.Packet e) × Sent y (Packet.Event e)
+        (e : EventPacket) × (packet_to (defined g before) ≡ Ok e) × Sent y (Packet.Event e)
     packet-sent buffer y among w =
         go (packet_to (defined g before)) refl
         (ap (λ (n : ℕ). n % 256) (sym (reached_returns s good demands before b (write_packet buffer))) ∙ w.0)
@@ -113,15 +108,15 @@ module _ (s : Service) (good : Good s) (demands : run.Demands s) (calls : List B
         ∙ (ap (λ (n : ℕ). take (n / 256 % 256) (buffer_after functions (images functions (service_bytes s) before) (write_packet buffer))) (reached_returns s good demands before b (write_packet buffer))
         ∙ ap (λ (r : List ℕ). take ((packet_call (packet_to (defined g before)) buffer).number / 256 % 256) r) (reached_buffers s good demands before b (write_packet buffer))))
       where
-        go : (x : SentPacket) → packet_to (defined g before) ≡ x → (packet_call x buffer).number % 256 ≡ 3 →
+        go : (x : Result EventPacket ℕ) → packet_to (defined g before) ≡ x → (packet_call x buffer).number % 256 ≡ 3 →
             y ≡ take ((packet_call x buffer).number / 256 % 256) (packet_call x buffer).bytes →
-            (e : EventPacket) × (packet_to (defined g before) ≡ SentPacket.Packet e) × Sent y (Packet.Event e)
-        go (SentPacket.Refused n) q h z = absurd (refused_not n h)
-        go (SentPacket.Packet e) q h z =
+            (e : EventPacket) × (packet_to (defined g before) ≡ Ok e) × Sent y (Packet.Event e)
+        go (Err n) q h z = absurd (not_two (refused_low n) h refl)
+        go (Ok e) q h z =
             (e, q, sent (write_packet buffer) policy.write_packet (Packet.Event e) buffer y among refl (e, (reached_equal s good demands before b).packet ∙ q, refl) h z)
 
     pub picture-sent : (buffer y : List ℕ) → calls ≡ before ++ (write_picture buffer ∷ rest) → Writes functions (images functions (service_bytes s) before) (write_picture buffer) y →
-        (v : Picture) × (picture_to (defined g before) ≡ SentPicture.Picture v) × Sent y (Packet.Picture v)
+        (v : Picture) × (picture_to (defined g before) ≡ Ok v) × Sent y (Packet.Picture v)
     picture-sent buffer y among w =
         go (picture_to (defined g before)) refl
         (ap (λ (n : ℕ). n % 256) (sym (reached_returns s good demands before b (write_picture buffer))) ∙ w.0)
@@ -129,9 +124,9 @@ module _ (s : Service) (good : Good s) (demands : run.Demands s) (calls : List B
         ∙ (ap (λ (n : ℕ). take (n / 256 % 256) (buffer_after functions (images functions (service_bytes s) before) (write_picture buffer))) (reached_returns s good demands before b (write_picture buffer))
         ∙ ap (λ (r : List ℕ). take ((picture_call (picture_to (defined g before)) buffer).number / 256 % 256) r) (reached_buffers s good demands before b (write_picture buffer))))
       where
-        go : (x : SentPicture) → picture_to (defined g before) ≡ x → (picture_call x buffer).number % 256 ≡ 3 →
+        go : (x : Result Picture ℕ) → picture_to (defined g before) ≡ x → (picture_call x buffer).number % 256 ≡ 3 →
             y ≡ take ((picture_call x buffer).number / 256 % 256) (picture_call x buffer).bytes →
-            (v : Picture) × (picture_to (defined g before) ≡ SentPicture.Picture v) × Sent y (Packet.Picture v)
-        go (SentPicture.Refused n) q h z = absurd (refused_not n h)
-        go (SentPicture.Picture v) q h z =
+            (v : Picture) × (picture_to (defined g before) ≡ Ok v) × Sent y (Packet.Picture v)
+        go (Err n) q h z = absurd (not_two (refused_low n) h refl)
+        go (Ok v) q h z =
             (v, q, sent (write_picture buffer) policy.write_picture (Packet.Picture v) buffer y among refl (v, (reached_equal s good demands before b).picture ∙ q, refl) h z)

@@ -1,22 +1,20 @@
 -- EDG-13: the edges as theorems about the definitions: of the contracts, of the event (abstract_policy specs/Edges.antt; the service follows it,
 -- machine_follows) and of `follow`. The record is the table, `edges` its proof.
-use Rattle.std.specs.Prelude.{◌≡◌, refl, Bool, true, false, List, [], ◌∷◌, ◌++◌, ℕ, ◌<◌, T}
+use Rattle.std.specs.Prelude.{◌≡◌, refl, Bool, true, false, List, [], ◌∷◌, ◌++◌, ℕ, ◌<◌, T, Err, None, Ok, Option, Some}
 use Rattle.power_policy_interface.specs.Capability.{max_power_mw, same_option_provider}
 use Rattle.power_policy_interface.specs.Psu.{attach_of, update_requested_of, invalid_state}
-use Rattle.power_policy_interface.specs.declared.capability.OptionConsumerPowerCapability.{OptionConsumerPowerCapability}
-use Rattle.power_policy_interface.specs.declared.capability.OptionProviderPowerCapability.{OptionProviderPowerCapability}
+use Rattle.interface_display.specs.declared.AvailableConsumer.{AvailableConsumer}
+use Rattle.power_policy_interface.specs.declared.capability.ConsumerPowerCapability.{ConsumerPowerCapability}
+use Rattle.power_policy_interface.specs.declared.capability.ProviderPowerCapability.{ProviderPowerCapability}
 use Rattle.power_policy_interface.specs.declared.psu.PsuState.{PsuState}
 use Rattle.power_policy_interface.specs.declared.psu.StateKind.{StateKind}
 use Rattle.power_policy_interface.specs.declared.psu.State.{State}
-use Rattle.power_policy_interface.specs.declared.psu.Result.{Result}
 use Rattle.power_policy_interface.proofs.Same.{option_provider_refl}
-use Rattle.interface_display.specs.declared.OptionAvailableConsumer.{OptionAvailableConsumer}
 use Rattle.interface_display.specs.declared.State as shown
 use Rattle.power_policy_service.specs.Config.{rust_default}
 use Rattle.power_policy_service.specs.Consumer.{eligible, available, best_of}
 use Rattle.power_policy_service.specs.Provider.{power_state_of}
 use Rattle.power_policy_service.specs.Rows.{psu_at}
-use Rattle.power_policy_service.specs.declared.config.OptionMilliwatts.{OptionMilliwatts}
 use Rattle.power_policy_service.specs.declared.provider.PowerState.{PowerState}
 use Rattle.power_policy_service.proofs.Choice.{only_chosen}
 use Rattle.abstract_policy.specs.Edges.{psu, offer, contract, nothing, offering, EventEdges}
@@ -25,12 +23,10 @@ use Rattle.wire.specs.Number.{leb128, read_number}
 use Rattle.wire.specs.Packet.{capability, contract as contractRead, consumer, unconstrained, consumer_connected, notice_of, notice, event_notices, event_after, event as eventPacket, picture_after, picture, packet_of, packet}
 use Rattle.wire.specs.Parser.{field, number}
 use Rattle.wire.specs.Read.{read_packet}
-use Rattle.wire.specs.declared.number.ReadNumber.{ReadNumber}
 use Rattle.abstract_desk.specs.Edges.{picture0, event1, event2, event3}
 use Rattle.desk_follower.specs.Follower as follower
 use Rattle.desk_follower.specs.Held.{none_held, greatest, above}
 use Rattle.desk_follower.specs.declared.Follower.{Follower}
-use Rattle.desk_follower.specs.declared.OptionNumber.{OptionNumber}
 use Rattle.wire_framing.specs.Framing.{framed}
 use Rattle.abstract_page.specs.Edges.{PageEdges}
 use Rattle.abstract_page.specs.Text.{decimal}
@@ -43,7 +39,7 @@ use Rattle.desk_report.specs.declared.line.Line.{Line}
 abbrev mw_at : ℕ → ℕ → ℕ
 mw_at v a = max_power_mw (record { voltage_mv = v; current_ma = a })
 
-abbrev line : OptionNumber → shown.State → OptionNumber → OptionNumber → Line
+abbrev line : Option ℕ → shown.State → Option ℕ → Option ℕ → Line
 line n s p m = record { shown = n; state = s; port = p; mw = m }
 
 -- what the line after each packet says
@@ -73,16 +69,16 @@ pub record Edges : Type 0 where
   pub P1-rounded_down : mw_at 999 1 ≡ 0
   pub P1-most : mw_at 65535 65535 ≡ 4294836
   -- EDG-2 (P2): no capability anywhere: none, whatever the minimum and the current consumer
-  pub P2 : (minimum : OptionMilliwatts) (current : OptionAvailableConsumer) (psus : List State) (n : ℕ)
-      → ((p : ℕ) → p < n → (psu_at psus p).consumer_capability ≡ OptionConsumerPowerCapability.None)
-      → OptionAvailableConsumer.None ≡ best_of minimum current psus n
+  pub P2 : (minimum : Option ℕ) (current : Option AvailableConsumer) (psus : List State) (n : ℕ)
+      → ((p : ℕ) → p < n → (psu_at psus p).consumer_capability ≡ None)
+      → None ≡ best_of minimum current psus n
   -- EDG-3 (P3): minimum 7,500: 7,500 is eligible, 7,499 not
-  pub P3-met : eligible (OptionMilliwatts.Some 7500) (offering (offer 5000 1500)) ≡ OptionConsumerPowerCapability.Some (offer 5000 1500)
-  pub P3-missed : eligible (OptionMilliwatts.Some 7500) (offering (offer 7499 1000)) ≡ OptionConsumerPowerCapability.None
+  pub P3-met : eligible (Some 7500) (offering (offer 5000 1500)) ≡ Some (offer 5000 1500)
+  pub P3-missed : eligible (Some 7500) (offering (offer 7499 1000)) ≡ None
   -- EDG-4 (P4): ports 0 and 2 at 15,000: current 2 gives 2, no current gives 0
-  pub P4-current : best_of OptionMilliwatts.None (available 2 (offer 5000 3000)) (offering (offer 15000 1000) ∷ nothing ∷ offering (offer 5000 3000) ∷ []) 3
+  pub P4-current : best_of None (available 2 (offer 5000 3000)) (offering (offer 15000 1000) ∷ nothing ∷ offering (offer 5000 3000) ∷ []) 3
       ≡ available 2 (offer 5000 3000)
-  pub P4-none : best_of OptionMilliwatts.None OptionAvailableConsumer.None (offering (offer 15000 1000) ∷ nothing ∷ offering (offer 5000 3000) ∷ []) 3
+  pub P4-none : best_of None None (offering (offer 15000 1000) ∷ nothing ∷ offering (offer 5000 3000) ∷ []) 3
       ≡ available 0 (offer 15000 1000)
   -- EDG-5 (P5): total 15,000 Unlimited, 15,001 Limited
   pub P5-unlimited : power_state_of rust_default 15000 ≡ PowerState.Unlimited
@@ -92,29 +88,29 @@ pub record Edges : Type 0 where
   -- the pages of the example's follower (PRG-7, S1), and one with four tracked ports
   pub pages : PageEdges
   -- EDG-8 (P8): attach in Idle is InvalidState (expected {Detached}, bit 1; actual Idle), and the record stays Idle
-  pub P8 : (c : OptionConsumerPowerCapability) (r : OptionProviderPowerCapability)
-      → attach_of (psu PsuState.Idle c r) ≡ record { result = Result.Err (invalid_state 1 StateKind.Idle); state = psu PsuState.Idle c r }
+  pub P8 : (c : Option ConsumerPowerCapability) (r : Option ProviderPowerCapability)
+      → attach_of (psu PsuState.Idle c r) ≡ record { result = Err (invalid_state 1 StateKind.Idle); state = psu PsuState.Idle c r }
   -- EDG-9 (P9): an equal request on a Detached record is no error
-  pub P9 : (c : OptionConsumerPowerCapability) (r : OptionProviderPowerCapability)
-      → update_requested_of (psu PsuState.Detached c r) r ≡ record { result = Result.Ok; state = psu PsuState.Detached c r }
+  pub P9 : (c : Option ConsumerPowerCapability) (r : Option ProviderPowerCapability)
+      → update_requested_of (psu PsuState.Detached c r) r ≡ record { result = (Ok tt); state = psu PsuState.Detached c r }
   -- MIS-1: a port in ConnectedProvider is chosen as any other. (MIS-3, a Limited grant cut to the request, is excluded by P7, MIS-5, a later
   -- port on equal mW, by P4-none.)
   pub chosen_while_providing :
-      best_of OptionMilliwatts.None OptionAvailableConsumer.None
-      (offering (offer 5000 1500) ∷ psu (PsuState.ConnectedProvider (contract 5000 1500)) (OptionConsumerPowerCapability.Some (offer 5000 3000)) OptionProviderPowerCapability.None ∷ [])
+      best_of None None
+      (offering (offer 5000 1500) ∷ psu (PsuState.ConnectedProvider (contract 5000 1500)) (Some (offer 5000 3000)) None ∷ [])
       2
       ≡ available 1 (offer 5000 3000)
   -- EDG-11 (P11): 128 is 80 01, 300 is AC 02, 80 00 is refused 31, whatever the limit and the rest
   pub P11-128 : leb128 128 ≡ 0x80 ∷ 0x01 ∷ []
   pub P11-300 : leb128 300 ≡ 0xAC ∷ 0x02 ∷ []
-  pub P11-refused : (limit : ℕ) (rest : List ℕ) → read_number limit (0x80 ∷ 0x00 ∷ rest) ≡ ReadNumber.Refused 31
+  pub P11-refused : (limit : ℕ) (rest : List ℕ) → read_number limit (0x80 ∷ 0x00 ∷ rest) ≡ Err 31
   -- EDG-12 (P12): the five takes of the example: n, state, port and mW after each; and the bytes that `follow` writes for its input
   pub P12 : taking follower.fresh (picture0 ∷ event2 ∷ event1 ∷ event1 ∷ event3 ∷ [])
-      ≡ line (OptionNumber.Some 0) shown.State.Level OptionNumber.None OptionNumber.None
-      ∷ line (OptionNumber.Some 0) shown.State.Waiting OptionNumber.None OptionNumber.None
-      ∷ line (OptionNumber.Some 2) shown.State.Level (OptionNumber.Some 1) (OptionNumber.Some 60000)
-      ∷ line (OptionNumber.Some 2) shown.State.Level (OptionNumber.Some 1) (OptionNumber.Some 60000)
-      ∷ line OptionNumber.None shown.State.Lost OptionNumber.None OptionNumber.None
+      ≡ line (Some 0) shown.State.Level None None
+      ∷ line (Some 0) shown.State.Waiting None None
+      ∷ line (Some 2) shown.State.Level (Some 1) (Some 60000)
+      ∷ line (Some 2) shown.State.Level (Some 1) (Some 60000)
+      ∷ line None shown.State.Lost None None
       ∷ []
   pub P12-written : follow example_input ≡ example_output
 
@@ -130,16 +126,16 @@ p11_300 : leb128 300 ≡ 0xAC ∷ 0x02 ∷ []
 unfolding leb128
 p11_300 = refl
 
-p11_refused : (limit : ℕ) (rest : List ℕ) → read_number limit (0x80 ∷ 0x00 ∷ rest) ≡ ReadNumber.Refused 31
+p11_refused : (limit : ℕ) (rest : List ℕ) → read_number limit (0x80 ∷ 0x00 ∷ rest) ≡ Err 31
 unfolding read_number
 p11_refused limit rest = refl
 
 p12 : taking follower.fresh (picture0 ∷ event2 ∷ event1 ∷ event1 ∷ event3 ∷ [])
-    ≡ line (OptionNumber.Some 0) shown.State.Level OptionNumber.None OptionNumber.None
-    ∷ line (OptionNumber.Some 0) shown.State.Waiting OptionNumber.None OptionNumber.None
-    ∷ line (OptionNumber.Some 2) shown.State.Level (OptionNumber.Some 1) (OptionNumber.Some 60000)
-    ∷ line (OptionNumber.Some 2) shown.State.Level (OptionNumber.Some 1) (OptionNumber.Some 60000)
-    ∷ line OptionNumber.None shown.State.Lost OptionNumber.None OptionNumber.None
+    ≡ line (Some 0) shown.State.Level None None
+    ∷ line (Some 0) shown.State.Waiting None None
+    ∷ line (Some 2) shown.State.Level (Some 1) (Some 60000)
+    ∷ line (Some 2) shown.State.Level (Some 1) (Some 60000)
+    ∷ line None shown.State.Lost None None
     ∷ []
 unfolding line_of read_number field number capability contractRead consumer unconstrained consumer_connected notice_of notice event_notices event_after eventPacket picture_after picture packet_of packet none_held greatest above follower.in_turn
 p12 = refl
@@ -154,7 +150,7 @@ edges =
       P1-type_c = refl;
       P1-rounded_down = refl;
       P1-most = refl;
-      P2 = λ minimum current psus n h. only_chosen minimum current psus n OptionAvailableConsumer.None (λ p l. rw (h p l));
+      P2 = λ minimum current psus n h. only_chosen minimum current psus n None (λ p l. rw (h p l));
       P3-met = refl;
       P3-missed = refl;
       P4-current = refl;

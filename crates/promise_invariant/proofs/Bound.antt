@@ -1,5 +1,6 @@
 -- From every well-formed service with an open event, however it was come by: whatever is answered, the event closes with at most
 -- 3 + 4 × chargers orders counted, as each answer counts one order more and no phase has more than that.
+use Rattle.std.specs.Prelude.{Err, None, Ok, Option, Result, Some}
 use mathlib.Core.Path.{◌≡◌, refl, sym, ap, ◌∙◌, subst}
 use mathlib.Core.Bool.{Bool, true, false, cond, not, ◌&&◌}
 use mathlib.Core.List.{[], ◌∷◌}
@@ -9,8 +10,9 @@ use lib.Dec.{eqb, ltb}
 use lib.ListN.{length}
 use borrow.Author.Tests.{ltb-true, lt-ltb}
 use Rattle.power_policy_interface.specs.Limits.{largest}
-use Rattle.power_policy_interface.specs.declared.psu.Result.{Result}
-use Rattle.interface_display.specs.declared.OptionAvailableConsumer.{OptionAvailableConsumer}
+use Rattle.interface_display.specs.declared.AvailableConsumer.{AvailableConsumer}
+use Rattle.power_policy_interface.specs.declared.psu.Error.{Error}
+use Rattle.power_policy_interface.specs.declared.service.UnconstrainedState.{UnconstrainedState}
 use Rattle.abstract_policy.specs.Refusals.{first_refused, unknown_answer}
 use Rattle.abstract_policy.specs.Given.{result_of}
 use Rattle.abstract_policy.specs.Interaction.{close}
@@ -18,15 +20,13 @@ use Rattle.abstract_policy.specs.Fed.{Answers, fed_by, orders_by}
 use Rattle.abstract_policy.specs.Ends.{AtMost}
 use Rattle.abstract_policy.specs.declared.state.Records.{Records}
 use Rattle.abstract_policy.specs.declared.state.Registration.{Registration}
-use Rattle.abstract_policy.specs.declared.order.OptionOrder.{OptionOrder}
 use Rattle.abstract_policy.specs.declared.order.Order.{Order}
 use Rattle.machine_state.specs.Memory.{no_notices}
 use Rattle.machine_state.specs.Phase.{order_of, outcome_of, switch_order, connect_order}
-use Rattle.machine_state.specs.declared.memory.DisconnectedNotice.{DisconnectedNotice}
+use Rattle.machine_state.specs.declared.memory.Disconnected.{Disconnected}
 use Rattle.machine_state.specs.declared.memory.Memory.{Memory}
 use Rattle.machine_state.specs.declared.memory.Notices.{Notices}
 use Rattle.machine_state.specs.declared.memory.ProviderNotice.{ProviderNotice}
-use Rattle.machine_state.specs.declared.memory.UnconstrainedNotice.{UnconstrainedNotice}
 use Rattle.machine_state.specs.declared.phase.Leaver.{Leaver}
 use Rattle.machine_state.specs.declared.phase.Phase.{Phase}
 use Rattle.machine_state.specs.declared.phase.Stage.{Stage}
@@ -60,9 +60,9 @@ answers_good (x ∷ l) s h = answers_good l (answer_of s x.0 x.1).service (answe
 moved_registered : (g : Registration) (number k : ℕ) (t : Turn) → (moved g number k t).service.registration ≡ g
 moved_registered g number k t = go (order_of t.phase)
   where
-    go : (o : OptionOrder) → (moved_by o g number k t).service.registration ≡ g
-    go OptionOrder.None = refl
-    go (OptionOrder.Some o) = refl
+    go : (o : Option Order) → (moved_by o g number k t).service.registration ≡ g
+    go None = refl
+    go (Some o) = refl
 
 answer_registered : (s : Service) (a : ℕ) (r : Records) → (answer_of s a r).service.registration ≡ s.registration
 answer_registered s a r = go (eqb (first_refused (answer_refusals s a)) 0)
@@ -99,13 +99,13 @@ not_connected_lem n h =
       unconstrained = figures n.unconstrained (and_right (no_consumer n.connected) (no_figures n.unconstrained) x);
     }
   where
-    consumer : (c : OptionAvailableConsumer) → no_consumer c ≡ true → c ≡ OptionAvailableConsumer.None
-    consumer OptionAvailableConsumer.None e = refl
-    consumer (OptionAvailableConsumer.Some c) e = absurd (apart e)
+    consumer : (c : Option AvailableConsumer) → no_consumer c ≡ true → c ≡ None
+    consumer None e = refl
+    consumer (Some c) e = absurd (apart e)
 
-    figures : (u : UnconstrainedNotice) → no_figures u ≡ true → u ≡ UnconstrainedNotice.None
-    figures UnconstrainedNotice.None e = refl
-    figures (UnconstrainedNotice.Some u) e = absurd (apart e)
+    figures : (u : Option UnconstrainedState) → no_figures u ≡ true → u ≡ None
+    figures None e = refl
+    figures (Some u) e = absurd (apart e)
 
 not_updated_lem : (n : Notices) → not_updated n ≡ true → NotUpdated n
 not_updated_lem n h = record {
@@ -113,9 +113,9 @@ not_updated_lem n h = record {
   later = not_connected_lem n (and_right (not_disconnected n.disconnected) (not_connected n) h);
 }
   where
-    consumer : (d : DisconnectedNotice) → not_disconnected d ≡ true → d ≡ DisconnectedNotice.None
-    consumer DisconnectedNotice.None e = refl
-    consumer (DisconnectedNotice.Some p f) e = absurd (apart e)
+    consumer : (d : Option Disconnected) → not_disconnected d ≡ true → d ≡ None
+    consumer None e = refl
+    consumer (Some d) e = absurd (apart e)
 
 nothing_told_lem : (n : Notices) → nothing_told n ≡ true → n ≡ no_notices
 nothing_told_lem n h =
@@ -152,15 +152,15 @@ fits_at {ports} {chargers} {k} {p} {m} h = phase_fits_lem ports chargers p m.not
 -- what is left of an event
 
 -- an error closes it
-by_outcome : (n : ℕ) (g : Registration) (p : Phase) (m : Memory) (r : Records) (a : Result) → AtMost n (stands_for g (after_order g p m r)) → AtMost n (stands_for g (answered_to a g p m r))
-by_outcome n g p m r Result.Ok h = h
-by_outcome n g p m r (Result.Err e) h = tt
+by_outcome : (n : ℕ) (g : Registration) (p : Phase) (m : Memory) (r : Records) (a : Result (Unit {0}) Error) → AtMost n (stands_for g (after_order g p m r)) → AtMost n (stands_for g (answered_to a g p m r))
+by_outcome n g p m r (Ok tt) h = h
+by_outcome n g p m r (Err e) h = tt
 
 module _ (n before : ℕ) (g : Registration) (limits : Limits g) (next : (t : Turn) → TurnGood g (before + 1) t → AtMost n (stands_for g t)) where
-  after_answer : (p : Phase) (m : Memory) (o : Order) → ((a : Result) (r : Records) → stands_for g (answered_of g p o m a r) ≡ rest g p a (held_of m) r close) →
-      At g.ports g.chargers (before + 1) p m → (a : Result) (r : Records) → AtMost n (rest g p a (held_of m) r close)
+  after_answer : (p : Phase) (m : Memory) (o : Order) → ((a : Result (Unit {0}) Error) (r : Records) → stands_for g (answered_of g p o m a r) ≡ rest g p a (held_of m) r close) →
+      At g.ports g.chargers (before + 1) p m → (a : Result (Unit {0}) Error) (r : Records) → AtMost n (rest g p a (held_of m) r close)
   after_answer p m o e h a r =
-      subst (λ i. AtMost n i) (e a r) (by_outcome n g p m r (outcome_of o a) (next (after_order g p m r) (answered_good g limits r Result.Ok p m (before + 1) refl h)))
+      subst (λ i. AtMost n i) (e a r) (by_outcome n g p m r (outcome_of o a) (next (after_order g p m r) (answered_good g limits r (Ok tt) p m (before + 1) refl h)))
 
   -- one order more than after its answer
   one_order : (p : Phase) (m : Memory) → At g.ports g.chargers (before + open_orders (stands_at g p m)) p m → AtMost (suc n) (stands_at g p m)
@@ -279,9 +279,9 @@ closed_stays (x ∷ l) s e =
 moved_counts : (g : Registration) (number k : ℕ) (t : Turn) → k < 255 → is_open (moved g number k t).service.phase ≡ true → (moved g number k t).service.orders ≡ suc k
 moved_counts g number k t l = go (order_of t.phase) refl
   where
-    go : (o : OptionOrder) → order_of t.phase ≡ o → is_open (moved_by o g number k t).service.phase ≡ true → (moved_by o g number k t).service.orders ≡ suc k
-    go OptionOrder.None e f = absurd (apart (rw e at f))
-    go (OptionOrder.Some o) e f = rw (lt-ltb k 255 l)
+    go : (o : Option Order) → order_of t.phase ≡ o → is_open (moved_by o g number k t).service.phase ≡ true → (moved_by o g number k t).service.orders ≡ suc k
+    go None e f = absurd (apart (rw e at f))
+    go (Some o) e f = rw (lt-ltb k 255 l)
 
 -- an answer that is taken counts one order more, or closes
 taken_counts : (s : Service) (a : ℕ) (r : Records) → s.orders < 255 → first_refused (answer_refusals s a) ≡ 0 → is_open (answer_of s a r).service.phase ≡ true →

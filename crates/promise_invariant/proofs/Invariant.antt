@@ -1,5 +1,6 @@
 -- A well-formed service stays well formed through every call: one that is turned back changes nothing, and an accepted one leads to a turn
 -- that keeps it (Steps.antt), with one order more or the next number.
+use Rattle.std.specs.Prelude.{Err, None, Ok, Option, Result, Some}
 use mathlib.Core.Path.{◌≡◌, refl, sym, subst}
 use mathlib.Core.Bool.{Bool, true, false, cond, ◌&&◌}
 use mathlib.Core.List.{List, [], ◌∷◌}
@@ -12,8 +13,6 @@ use borrow.Author.Tests.{ltb-true, leb-false, eqb-true, le-leb, lt-ltb}
 use Rattle.power_policy_interface.specs.Psu.{answers}
 use Rattle.power_policy_interface.specs.Limits.{largest}
 use Rattle.power_policy_interface.specs.declared.psu.Error.{Error}
-use Rattle.power_policy_interface.specs.declared.psu.OptionResult.{OptionResult}
-use Rattle.power_policy_interface.specs.declared.psu.Result.{Result}
 use Rattle.power_policy_service.specs.Config.{ConfigFits}
 use Rattle.power_policy_service.specs.declared.config.Config.{Config}
 use Rattle.abstract_policy.specs.Refusals.{not_registered, unknown_event, numbers_used, first_refused, no_answer}
@@ -22,7 +21,6 @@ use Rattle.abstract_policy.specs.Policy.{Call, open_event, give_answer, write_pa
 use Rattle.abstract_policy.specs.declared.state.InternalState.{InternalState}
 use Rattle.abstract_policy.specs.declared.state.Records.{Records}
 use Rattle.abstract_policy.specs.declared.state.Registration.{Registration}
-use Rattle.abstract_policy.specs.declared.order.OptionOrder.{OptionOrder}
 use Rattle.abstract_policy.specs.declared.order.Order.{Order}
 use Rattle.abstract_policy.specs.declared.outcome.Step.{Step}
 use Rattle.machine_state.specs.Memory.{no_notices}
@@ -116,18 +114,18 @@ open_good s kind device detail r w h = go (eqb n 0) refl (eqb kind 5) refl
         (lt-ltb device g.ports (leb-false g.ports device port)))
 
     go : (a : Bool) → eqb n 0 ≡ a → (b : Bool) → eqb kind 5 ≡ b →
-        Good (cond a (cond b (stepped (Step.Closed Result.Ok 0) s) (opened_of s device (event_of kind detail) r)) (refused n s)).service
+        Good (cond a (cond b (stepped (Ok (Step.Closed (Ok tt) 0)) s) (opened_of s device (event_of kind detail) r)) (refused n s)).service
     go true e true f = h
     go true e false f = good (opened_of s device (event_of kind detail) r).service (accepted (eqb-true n 0 e) f)
     go false e b f = h
 
 -- an answer
 
-abbrev all_fit : List OptionResult → Bool
+abbrev all_fit : List (Option (Result (Unit {0}) Error)) → Bool
 all_fit [] = true
 all_fit (a ∷ l) = result_fits (result_in a) && all_fit l
 
-one_fits : (l : List OptionResult) (n : ℕ) → all_fit l ≡ true → result_fits (result_in (get_or l n OptionResult.None)) ≡ true
+one_fits : (l : List (Option (Result (Unit {0}) Error))) (n : ℕ) → all_fit l ≡ true → result_fits (result_in (get_or l n None)) ≡ true
 one_fits [] n e = refl
 one_fits (a ∷ l) zero e = and_left (result_fits (result_in a)) (all_fit l) e
 one_fits (a ∷ l) (suc n) e = one_fits l n (and_right (result_fits (result_in a)) (all_fit l) e)
@@ -142,11 +140,11 @@ failed_fits (Order.Attach i c) e h = refl
 failed_fits (Order.Detach i) e h = refl
 failed_fits Order.Wait e h = refl
 
-pub outcome_fits : (o : Order) (a : Result) → result_fits a ≡ true → result_fits (outcome_of o a) ≡ true
-outcome_fits o Result.Ok h = refl
-outcome_fits o (Result.Err e) h = failed_fits o e h
+pub outcome_fits : (o : Order) (a : Result (Unit {0}) Error) → result_fits a ≡ true → result_fits (outcome_of o a) ≡ true
+outcome_fits o (Ok tt) h = refl
+outcome_fits o (Err e) h = failed_fits o e h
 
-open_answered : (g : Registration) (number k : ℕ) (p : Phase) (m : Memory) (o : Order) (a : ℕ) (r : Records) → order_of p ≡ OptionOrder.Some o →
+open_answered : (g : Registration) (number k : ℕ) (p : Phase) (m : Memory) (o : Order) (a : ℕ) (r : Records) → order_of p ≡ Some o →
     Parts (service g number k p m) → Parts (answer_of (service g number k p m) a r).service
 open_answered g number k p m o a r e h = subst Parts (sym (open_answer g number k p m o a r e)) (go (no_answer o a))
   where

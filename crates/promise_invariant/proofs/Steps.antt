@@ -1,5 +1,6 @@
 -- Each step of an event keeps what is well formed: ports come from the event or the choice, both below the count, and every order counts one
 -- toward the most of the phase that it leads to. In the order of the definitions of `update` and `process`.
+use Rattle.std.specs.Prelude.{Err, None, Ok, Option, Result, Some}
 use mathlib.Core.Path.{◌≡◌, refl}
 use mathlib.Core.Bool.{Bool, true, false, cond, ◌&&◌}
 use Prim.Native.Nat.{ℕ, zero, suc, ◌+◌, ◌*◌, ◌-◌, ◌^◌, ◌≤◌, ◌<◌, min}
@@ -13,19 +14,14 @@ use Rattle.power_policy_interface.specs.Psu.{kind_of, has_kind, expect_of, idle_
 use Rattle.power_policy_interface.specs.Service.{same_unconstrained}
 use Rattle.power_policy_interface.specs.Capability.{capability_fits}
 use Rattle.power_policy_interface.specs.declared.capability.DisconnectFlags.{DisconnectFlags}
-use Rattle.power_policy_interface.specs.declared.capability.OptionProviderPowerCapability.{OptionProviderPowerCapability}
+use Rattle.power_policy_interface.specs.declared.psu.Error.{Error}
 use Rattle.power_policy_interface.specs.declared.capability.ProviderPowerCapability.{ProviderPowerCapability}
-use Rattle.power_policy_interface.specs.declared.psu.Result.{Result}
 use Rattle.power_policy_interface.specs.declared.psu.StateKind.{StateKind}
 use Rattle.power_policy_interface.specs.declared.psu.event.EventData.{EventData}
 use Rattle.power_policy_interface.specs.declared.service.UnconstrainedState.{UnconstrainedState}
-use Rattle.interface_display.specs.Providers.{contains, len, room, insert_of, remove_of}
+use Rattle.interface_display.specs.Providers.{contains, len, room, insert_of, remove_of, Inserted, Removed}
 use Rattle.interface_display.specs.declared.AvailableConsumer.{AvailableConsumer}
-use Rattle.interface_display.specs.declared.OptionAvailableConsumer.{OptionAvailableConsumer}
-use Rattle.interface_display.specs.declared.providers.Insert.{Insert}
-use Rattle.interface_display.specs.declared.providers.Inserted.{Inserted}
 use Rattle.interface_display.specs.declared.providers.Providers.{Providers}
-use Rattle.interface_display.specs.declared.providers.Removed.{Removed}
 use Rattle.interface_display.proofs.Tracked.{Tracks, insert_tracks, remove_tracks}
 use Rattle.power_policy_service.specs.Choice.{Chosen}
 use Rattle.power_policy_service.specs.Provider.{total_of, total_with, power_state_of, grant_of}
@@ -67,11 +63,11 @@ pub record ConsumerGood (ports : ℕ) (c : AvailableConsumer) : Type 0 where
 
 -- what is held and told
 
-with_consumer_lem : (ports : ℕ) (c : OptionAvailableConsumer) (s : InternalState) → consumer_fits ports c ≡ true → ConsumerTyped c → StateGood ports s → StateGood ports (with_consumer c s)
+with_consumer_lem : (ports : ℕ) (c : Option AvailableConsumer) (s : InternalState) → consumer_fits ports c ≡ true → ConsumerTyped c → StateGood ports s → StateGood ports (with_consumer c s)
 with_consumer_lem ports c s e t h = record { consumer = e; typed = t; available = h.available; tracked = h.tracked; few = h.few }
 
-no_consumer_lem : (ports : ℕ) (s : InternalState) → StateGood ports s → StateGood ports (with_consumer OptionAvailableConsumer.None s)
-no_consumer_lem ports s h = with_consumer_lem ports OptionAvailableConsumer.None s refl tt h
+no_consumer_lem : (ports : ℕ) (s : InternalState) → StateGood ports s → StateGood ports (with_consumer None s)
+no_consumer_lem ports s h = with_consumer_lem ports None s refl tt h
 
 with_power : (ports : ℕ) (w : PowerState) (s : InternalState) → StateGood ports s → StateGood ports (with_power_state w s)
 with_power ports w s h = record { consumer = h.consumer; typed = h.typed; available = h.available; tracked = h.tracked; few = h.few }
@@ -98,8 +94,8 @@ insert_mask : (s : Providers) (p ports : ℕ) → p < ports → s.mask < 2 ^ por
 insert_mask s p ports l h = go (contains s p) (room s p)
   where
     go : (c b : Bool) →
-        (cond {A = Inserted} c (record { found = Insert.Present; providers = s })
-        (cond {A = Inserted} b (record { found = Insert.Added; providers = record { mask = bit_or s.mask (2 ^ p) } }) (record { found = Insert.Full; providers = s }))
+        (cond {A = Inserted} c (record { found = Ok false; providers = s })
+        (cond {A = Inserted} b (record { found = Ok true; providers = record { mask = bit_or s.mask (2 ^ p) } }) (record { found = Err p; providers = s }))
         ).providers.mask
         < 2 ^ ports
     go true b = h
@@ -124,7 +120,7 @@ with_tracked ports p s l t h =
 expect_fits : (set : ℕ) (k : StateKind) → ltb 0 set && leb set 15 ≡ true → result_fits (expect_of set k) ≡ true
 expect_fits set k e = go (has_kind set k)
   where
-    go : (b : Bool) → result_fits (cond b Result.Ok (Result.Err (invalid_state set k))) ≡ true
+    go : (b : Bool) → result_fits (cond b (Ok tt) (Err (invalid_state set k))) ≡ true
     go true = refl
     go false = e
 
@@ -159,11 +155,11 @@ orders_most_lem {ports} {chargers} {k} {p} h = omega (arith, most p h.fits, h.mo
 module _ (g : Registration) (limits : Limits g) (r : Records) where
   -- the update
 
-  closed_good : (a : Result) (m : Memory) (k : ℕ) → result_fits a ≡ true → MemoryGood g.ports m → k ≤ 3 + 4 * g.chargers → TurnGood g k (closed a m)
+  closed_good : (a : Result (Unit {0}) Error) (m : Memory) (k : ℕ) → result_fits a ≡ true → MemoryGood g.ports m → k ≤ 3 + 4 * g.chargers → TurnGood g k (closed a m)
   closed_good a m k e h l = record { fits = e; typed = tt; least = omega arith; most = omega arith; memory = h; told = refl }
 
   finish_good : (m : Memory) (k : ℕ) → MemoryGood g.ports m → k ≤ 3 + 4 * g.chargers → TurnGood g k (finish_update_of g m r)
-  finish_good m k h l = closed_good Result.Ok _ k refl (go (same_unconstrained u m.state.unconstrained)) l
+  finish_good m k h l = closed_good (Ok tt) _ k refl (go (same_unconstrained u m.state.unconstrained)) l
     where
       u : UnconstrainedState
       u = unconstrained_of g m.state r
@@ -181,10 +177,10 @@ module _ (g : Registration) (limits : Limits g) (r : Records) where
             notices = record { provider = n.provider; granted = n.granted; disconnected = n.disconnected; connected = n.connected; typed = n.typed; unconstrained = few };
           }
 
-  connect_good : (a : Result) (m : Memory) (new : AvailableConsumer) (k : ℕ) → result_fits a ≡ true → MemoryGood g.ports m → ConsumerGood g.ports new →
+  connect_good : (a : Result (Unit {0}) Error) (m : Memory) (new : AvailableConsumer) (k : ℕ) → result_fits a ≡ true → MemoryGood g.ports m → ConsumerGood g.ports new →
       not_connected m.notices ≡ true → k ≤ 1 + g.chargers → TurnGood g k (connect_if a m new)
-  connect_good Result.Ok m new k e h c t l = record { fits = c.port; typed = c.capability; least = omega arith; most = omega arith; memory = h; told = t }
-  connect_good (Result.Err x) m new k e h c t l = closed_good (Result.Err x) m k e h (omega arith)
+  connect_good (Ok tt) m new k e h c t l = record { fits = c.port; typed = c.capability; least = omega arith; most = omega arith; memory = h; told = t }
+  connect_good (Err x) m new k e h c t l = closed_good (Err x) m k e h (omega arith)
 
   connect_psu_good : (m : Memory) (new : AvailableConsumer) (k : ℕ) → MemoryGood g.ports m → ConsumerGood g.ports new →
       not_connected m.notices ≡ true → k ≤ 1 + g.chargers → TurnGood g k (connect_psu_of m new r)
@@ -223,11 +219,11 @@ module _ (g : Registration) (limits : Limits g) (r : Records) where
       go true = record { fits = both (ltb old g.ports) (ltb new.psu g.ports) o c.port; typed = c.capability; least = omega arith; most = omega arith; memory = left; told = t }
       go false = switch_good (cleared m) 0 old f new 0 left o c t (omega arith) (omega arith)
 
-  connect_from_good : (current : OptionAvailableConsumer) (m : Memory) (new : AvailableConsumer) (f : DisconnectFlags) → MemoryGood g.ports m → consumer_fits g.ports current ≡ true → ConsumerGood g.ports new →
+  connect_from_good : (current : Option AvailableConsumer) (m : Memory) (new : AvailableConsumer) (f : DisconnectFlags) → MemoryGood g.ports m → consumer_fits g.ports current ≡ true → ConsumerGood g.ports new →
       not_updated m.notices ≡ true → TurnGood g 0 (connect_from current g m new f r)
-  connect_from_good OptionAvailableConsumer.None m new f h o c t =
+  connect_from_good None m new f h o c t =
       connect_psu_good m new 0 h c (and_right (not_disconnected m.notices.disconnected) (not_connected m.notices) t) (omega arith)
-  connect_from_good (OptionAvailableConsumer.Some d) m new f h o c t = go (same_available d new)
+  connect_from_good (Some d) m new f h o c t = go (same_available d new)
     where
       go : (b : Bool) → TurnGood g 0 (cond b (finish_update_of g m r) (disconnect_of g m d.psu f new r))
       go true = finish_good m 0 h (omega arith)
@@ -268,13 +264,13 @@ module _ (g : Registration) (limits : Limits g) (r : Records) where
           finish_good (told_connected m new) k (record { state = h.state; notices = told_connected_lem g.ports new m.notices c h.notices })
           (omega arith)
 
-  none_good : (current : OptionAvailableConsumer) (m : Memory) (f : DisconnectFlags) → MemoryGood g.ports m → consumer_fits g.ports current ≡ true →
+  none_good : (current : Option AvailableConsumer) (m : Memory) (f : DisconnectFlags) → MemoryGood g.ports m → consumer_fits g.ports current ≡ true →
       not_updated m.notices ≡ true → TurnGood g 0 (update_none current g m f r)
-  none_good OptionAvailableConsumer.None m f h o t = finish_good m 0 h (omega arith)
-  none_good (OptionAvailableConsumer.Some c) m f h o t = leave_good m 0 c.psu f 0 h o t (omega arith) (omega arith)
+  none_good None m f h o t = finish_good m 0 h (omega arith)
+  none_good (Some c) m f h o t = leave_good m 0 c.psu f 0 h o t (omega arith) (omega arith)
 
   -- the best consumer is of a registered port
-  chosen_good : (m : Memory) → RecordsFit r → (c : AvailableConsumer) → find_best_consumer g m.state r ≡ OptionAvailableConsumer.Some c → ConsumerGood g.ports c
+  chosen_good : (m : Memory) → RecordsFit r → (c : AvailableConsumer) → find_best_consumer g m.state r ≡ Some c → ConsumerGood g.ports c
   chosen_good m w c e = record { port = lt-ltb c.psu g.ports (below (rw e at x)); capability = and_right (leb c.psu 15) (capability_fits c.consumer_power_capability.capability) (rw e at y) }
     where
       x : Chosen g.config.min_consumer_threshold_mw m.state.current_consumer_state r.psus (min 16 g.ports) (find_best_consumer g m.state r)
@@ -283,27 +279,27 @@ module _ (g : Registration) (limits : Limits g) (r : Records) where
       y : wire.consumer_fits (find_best_consumer g m.state r) ≡ true
       y = best_fits g.config.min_consumer_threshold_mw m.state.current_consumer_state r (min 16 g.ports) (min-le_left 16 g.ports) w
 
-      below : Chosen g.config.min_consumer_threshold_mw m.state.current_consumer_state r.psus (min 16 g.ports) (OptionAvailableConsumer.Some c) → c.psu < g.ports
+      below : Chosen g.config.min_consumer_threshold_mw m.state.current_consumer_state r.psus (min 16 g.ports) (Some c) → c.psu < g.ports
       below b = omega (arith, b.offer.registered, min-le_right 16 g.ports)
 
   update_good : (m : Memory) (f : DisconnectFlags) → RecordsFit r → MemoryGood g.ports m → not_updated m.notices ≡ true → TurnGood g 0 (update_of g m f r)
   update_good m f w h t = go (find_best_consumer g m.state r) refl
     where
-      go : (best : OptionAvailableConsumer) → find_best_consumer g m.state r ≡ best → TurnGood g 0 (update_to best g m f r)
-      go OptionAvailableConsumer.None e = none_good m.state.current_consumer_state m f h h.state.consumer t
-      go (OptionAvailableConsumer.Some new) e = connect_from_good m.state.current_consumer_state m new f h h.state.consumer (chosen_good m w new e) t
+      go : (best : Option AvailableConsumer) → find_best_consumer g m.state r ≡ best → TurnGood g 0 (update_to best g m f r)
+      go None e = none_good m.state.current_consumer_state m f h h.state.consumer t
+      go (Some new) e = connect_from_good m.state.current_consumer_state m new f h h.state.consumer (chosen_good m w new e) t
 
   -- providers
 
-  provide_if_good : (a : Result) (m : Memory) (p : ℕ) (c : ProviderPowerCapability) → result_fits a ≡ true → MemoryGood g.ports m → ltb p g.ports ≡ true → capability_fits c.capability ≡ true →
+  provide_if_good : (a : Result (Unit {0}) Error) (m : Memory) (p : ℕ) (c : ProviderPowerCapability) → result_fits a ≡ true → MemoryGood g.ports m → ltb p g.ports ≡ true → capability_fits c.capability ≡ true →
       nothing_told m.notices ≡ true → TurnGood g 0 (provide_if a m p c)
-  provide_if_good Result.Ok m p c e h o f t = record { fits = o; typed = f; least = omega arith; most = omega arith; memory = h; told = t }
-  provide_if_good (Result.Err x) m p c e h o f t = closed_good (Result.Err x) m 0 e h (omega arith)
+  provide_if_good (Ok tt) m p c e h o f t = record { fits = o; typed = f; least = omega arith; most = omega arith; memory = h; told = t }
+  provide_if_good (Err x) m p c e h o f t = closed_good (Err x) m 0 e h (omega arith)
 
-  provide_good : (q : OptionProviderPowerCapability) (m : Memory) (p : ℕ) → RequestFits q → MemoryGood g.ports m → ltb p g.ports ≡ true →
+  provide_good : (q : Option ProviderPowerCapability) (m : Memory) (p : ℕ) → RequestFits q → MemoryGood g.ports m → ltb p g.ports ≡ true →
       nothing_told m.notices ≡ true → TurnGood g 0 (provide_for q g m p r)
-  provide_good OptionProviderPowerCapability.None m p w h o t = closed_good Result.Ok m 0 refl h (omega arith)
-  provide_good (OptionProviderPowerCapability.Some q) m p w h o t =
+  provide_good None m p w h o t = closed_good (Ok tt) m 0 refl h (omega arith)
+  provide_good (Some q) m p w h o t =
       let s = power_state_of g.config (total_with p q r.psus (min 16 g.ports)) in
       provide_if_good (can_connect_provider_of (psu_of r p)) (remember (with_power_state s m.state) m.notices) p (grant_of g.config s q)
       (expect_fits idle_or_provider (kind_of (psu_of r p).psu_state) refl)
@@ -362,7 +358,7 @@ module _ (g : Registration) (limits : Limits g) (r : Records) where
   depart_good s p f w h o = update_good (remove_provider_of g (remember s no_notices) p r) f w (removal_good (remember s no_notices) p h o) (removal_tells s p)
 
   pub process_good : (s : InternalState) (p : ℕ) (e : EventData) → RecordsFit r → MemoryGood g.ports (remember s no_notices) → ltb p g.ports ≡ true → TurnGood g 0 (process_of g (remember s no_notices) p e r)
-  process_good s p EventData.Attached w h o = closed_good Result.Ok (remember s no_notices) 0 refl h (omega arith)
+  process_good s p EventData.Attached w h o = closed_good (Ok tt) (remember s no_notices) 0 refl h (omega arith)
   process_good s p EventData.UpdatedConsumerCapability w h o = update_good (remember s no_notices) no_reason w h refl
   process_good s p EventData.RequestedProviderCapability w h o =
       provide_good (psu_of r p).requested_provider_capability (remember s no_notices) p (psu_fits r p w).1 h o refl
@@ -380,7 +376,7 @@ module _ (g : Registration) (limits : Limits g) (r : Records) where
     typed = h.typed;
     least = omega (arith, h.least);
     most = omega (arith, h.most);
-    memory = record { state = with_consumer_lem g.ports (OptionAvailableConsumer.Some new) m.state h.fits h.typed h.memory.state; notices = h.memory.notices };
+    memory = record { state = with_consumer_lem g.ports (Some new) m.state h.fits h.typed h.memory.state; notices = h.memory.notices };
     told = h.told;
   }
   stage_good Stage.Settling new m k h =
@@ -421,9 +417,9 @@ module _ (g : Registration) (limits : Limits g) (r : Records) where
       (omega (arith, h.most))
       (omega (arith, l)))
   after_good (Phase.Connecting s new) m k h = stage_good s new m k h
-  after_good (Phase.Providing p c) m k h = closed_good Result.Ok (post_provider_of m p c) k refl (provided_good m p c h.memory h.fits h.typed) (omega (arith, h.most))
+  after_good (Phase.Providing p c) m k h = closed_good (Ok tt) (post_provider_of m p c) k refl (provided_good m p c h.memory h.fits h.typed) (omega (arith, h.most))
 
   -- an error closes the event where it stands
-  pub answered_good : (a : Result) (p : Phase) (m : Memory) (k : ℕ) → result_fits a ≡ true → At g.ports g.chargers k p m → TurnGood g k (answered_to a g p m r)
-  answered_good Result.Ok p m k e h = after_good p m k h
-  answered_good (Result.Err x) p m k e h = closed_good (Result.Err x) m k e h.memory (orders_most_lem h)
+  pub answered_good : (a : Result (Unit {0}) Error) (p : Phase) (m : Memory) (k : ℕ) → result_fits a ≡ true → At g.ports g.chargers k p m → TurnGood g k (answered_to a g p m r)
+  answered_good (Ok tt) p m k e h = after_good p m k h
+  answered_good (Err x) p m k e h = closed_good (Err x) m k e h.memory (orders_most_lem h)

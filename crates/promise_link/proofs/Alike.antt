@@ -1,10 +1,10 @@
 -- The code's follower does what the abstract one does: in turn, the ring's next place is the list's first packet; else a take changes the list at one number,
 -- and a picture keeps what is above it. Over lists, take by take.
+use Rattle.std.specs.Prelude.{Err, None, Ok, Option, Result, Some}
 use mathlib.Core.Path.{◌≡◌, refl, ap, sym, ◌∙◌, subst}
 use mathlib.Core.Bool.{Bool, true, false, cond, ◌&&◌}
 use mathlib.Core.List.{List, [], ◌∷◌, ◌++◌}
 use mathlib.Core.Logic.{◌↔◌, ⊎_elim}
-use mathlib.Core.Option.{Option, none, some}
 use Prim.Native.Nat.{ℕ, zero, suc, ◌+◌, ◌%◌, ◌≤◌, ◌<◌}
 use native.Mathlib.Nat.{max-eq_right}
 use native.Mathlib.Omega.{arith}
@@ -18,7 +18,6 @@ use Rattle.interface_display.specs.declared.packet.Packet.{Packet}
 use Rattle.interface_display.specs.declared.packet.Picture.{Picture}
 use Rattle.interface_display.specs.declared.State.{State}
 use Rattle.wire.specs.Read.{read_packet}
-use Rattle.wire.specs.declared.packet.ReadPacket.{ReadPacket}
 use Rattle.wire.proofs.OnePacket.{write_read}
 use Rattle.abstract_desk.specs.Follower as paper
 use Rattle.abstract_desk.specs.Takes.{read_by, takes_by, EachBytes}
@@ -255,12 +254,12 @@ taken_alike f p w r = taken_at_lem f.shown f.held p w r
 
 some_held : (k : ℕ) (h : Held) → none_held k h ≡ false → (i : ℕ) × (i < k) × ((packet_at h i).number ≡ 0 → ⊥)
 unfolding none_held
-some_held zero h e = absurd (let z : ◌≡◌ {A = ℕ} 0 1 = cc in omega arith)
+some_held zero h e = absurd (cc)
 some_held (suc k) h e = go (none_held k h) refl (eqb (packet_at h k).number 0) refl (some_held k h) e
   where
     go : (x : Bool) → none_held k h ≡ x → (y : Bool) → eqb (packet_at h k).number 0 ≡ y →
         (none_held k h ≡ false → (i : ℕ) × (i < k) × ((packet_at h i).number ≡ 0 → ⊥)) → x && y ≡ false → (i : ℕ) × (i < suc k) × ((packet_at h i).number ≡ 0 → ⊥)
-    go true p true q r z = absurd (let o : ◌≡◌ {A = ℕ} 0 1 = cc in omega arith)
+    go true p true q r z = absurd (cc)
     go true p false q r z = (k, omega arith, eqb-false _ _ q)
     go false p y q r z =
         let v = r p in
@@ -277,8 +276,8 @@ none_held_lem (suc k) h e i l = go (none_held k h) refl (eqb (packet_at h k).num
     go true p true q r z false t =
         let d : i ≡ k → ⊥ = eqb-false i k t in
         r p i (omega (arith, d))
-    go true p false q r z t s = absurd (let o : ◌≡◌ {A = ℕ} 0 1 = cc in omega arith)
-    go false p y q r z t s = absurd (let o : ◌≡◌ {A = ℕ} 0 1 = cc in omega arith)
+    go true p false q r z t s = absurd (cc)
+    go false p y q r z t s = absurd (cc)
 
 module _ (s : Picture) (h : Held) (w : Within (s.number + 2) (s.number + 8) h) where
   none_waits : none_held 8 h ≡ true → held_from h (s.number + 2) 7 ≡ []
@@ -301,7 +300,7 @@ module _ (s : Picture) (h : Held) (w : Within (s.number + 2) (s.number + 8) h) w
       cond t State.Level State.Waiting ≡ paper.state (paper.showing s.number s.display l)
   listed_state [] true a b = refl
   listed_state [] false a b = absurd (b refl refl)
-  listed_state (e ∷ l) true a b = absurd (let q : e ∷ l ≡ [] = a refl in let o : ◌≡◌ {A = ℕ} 0 1 = cc in omega arith)
+  listed_state (e ∷ l) true a b = absurd (let q : e ∷ l ≡ [] = a refl in cc)
   listed_state (e ∷ l) false a b = refl
 
 state_at_lem : (x : Shown) (h : Held) → WellFormedAt x h → state_at x (none_held 8 h) ≡ paper.state (seen_at x h)
@@ -311,38 +310,38 @@ state_at_lem (Shown.Picture s) h w =
 
 -- what is shown
 
-lost_at : (x : Shown) (h : Held) → ((floor : ℕ) × (x ≡ Shown.Lost floor)) ↔ (paper.shown (seen_at x h) ≡ none)
+lost_at : (x : Shown) (h : Held) → ((floor : ℕ) × (x ≡ Shown.Lost floor)) ↔ (paper.shown (seen_at x h) ≡ None)
 lost_at (Shown.Lost floor) h = (λ q. refl, λ e. (floor, refl))
 lost_at (Shown.Picture s) h = (
-  λ q. absurd (let p : Shown.Picture s ≡ Shown.Lost q.0 = q.1 in let o : ◌≡◌ {A = ℕ} 0 1 = cc in omega arith),
-  λ e. absurd (let o : ◌≡◌ {A = ℕ} 0 1 = cc in omega arith),
+  λ q. absurd (let p : Shown.Picture s ≡ Shown.Lost q.0 = q.1 in cc),
+  λ e. absurd (cc),
 )
 
 abbrev pictured : Shown → Option Picture
-pictured (Shown.Lost floor) = none
-pictured (Shown.Picture p) = some p
+pictured (Shown.Lost floor) = None
+pictured (Shown.Picture p) = Some p
 
 abbrev unpictured : Option Picture → Shown
-unpictured none = Shown.Lost 0
-unpictured (some p) = Shown.Picture p
+unpictured None = Shown.Lost 0
+unpictured (Some p) = Shown.Picture p
 
-shows_at : (x : Shown) (h : Held) (n : ℕ) (d : Display) → (x ≡ Shown.Picture (at n d)) ↔ (paper.shown (seen_at x h) ≡ some (at n d))
+shows_at : (x : Shown) (h : Held) (n : ℕ) (d : Display) → (x ≡ Shown.Picture (at n d)) ↔ (paper.shown (seen_at x h) ≡ Some (at n d))
 shows_at (Shown.Lost floor) h n d = (
-  λ e. absurd (let o : ◌≡◌ {A = ℕ} 0 1 = cc in omega arith),
-  λ e. absurd (let o : ◌≡◌ {A = ℕ} 0 1 = cc in omega arith),
+  λ e. absurd (cc),
+  λ e. absurd (cc),
 )
 shows_at (Shown.Picture s) h n d = (λ e. ap pictured e, λ e. ap unpictured e)
 
 -- lists of takes
 
-read_formed : (b : List ℕ) (f : Follower) → ((k : ℕ) → get_or b k 0 < 256) → WellFormed f → (x : ReadPacket) → read_packet b ≡ x → WellFormed (taken_read f x)
-read_formed b f a w (ReadPacket.Refused n) e = w
-read_formed b f a w (ReadPacket.Packet p) e = take_kept f p w (readable p (write_read b p a e).fits)
+read_formed : (b : List ℕ) (f : Follower) → ((k : ℕ) → get_or b k 0 < 256) → WellFormed f → (x : Result Packet ℕ) → read_packet b ≡ x → WellFormed (taken_read f x)
+read_formed b f a w (Err n) e = w
+read_formed b f a w (Ok p) e = take_kept f p w (readable p (write_read b p a e).fits)
 
-read_alike : (b : List ℕ) (f : Follower) → ((k : ℕ) → get_or b k 0 < 256) → WellFormed f → (x : ReadPacket) → read_packet b ≡ x →
+read_alike : (b : List ℕ) (f : Follower) → ((k : ℕ) → get_or b k 0 < 256) → WellFormed f → (x : Result Packet ℕ) → read_packet b ≡ x →
     seen (taken_read f x) ≡ read_by (seen f) x
-read_alike b f a w (ReadPacket.Refused n) e = refl
-read_alike b f a w (ReadPacket.Packet p) e = taken_alike f p w (readable p (write_read b p a e).fits)
+read_alike b f a w (Err n) e = refl
+read_alike b f a w (Ok p) e = taken_alike f p w (readable p (write_read b p a e).fits)
 
 takes_formed : (l : List (List ℕ)) (f : Follower) → EachBytes l → WellFormed f → WellFormed (takes_bytes f l)
 takes_formed [] f a w = w

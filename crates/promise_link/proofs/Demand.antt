@@ -1,5 +1,6 @@
 -- DEM-3: what a list of takes keeps (Lists.antt), read off at its end. DEM-3c is the floor being the greatest number met; DEM-3b
 -- holds because what was met above what is shown is held, and the next is never left waiting.
+use Rattle.std.specs.Prelude.{Ok, Result}
 use mathlib.Core.Path.{◌≡◌, refl, ap, sym, ◌∙◌, subst}
 use mathlib.Core.Bool.{Bool, true, false}
 use mathlib.Core.List.{List, [], ◌∷◌, ◌++◌}
@@ -14,7 +15,6 @@ use Rattle.interface_display.specs.declared.packet.Packet.{Packet}
 use Rattle.interface_display.specs.declared.packet.Picture.{Picture}
 use Rattle.wire.specs.Bytes.{packet_bytes}
 use Rattle.wire.specs.Read.{read_packet}
-use Rattle.wire.specs.declared.packet.ReadPacket.{ReadPacket}
 use Rattle.desk_follower.specs.Follower.{fresh, taken, taken_at}
 use Rattle.desk_follower.specs.WellFormed.{WellFormedAt}
 use Rattle.desk_follower.specs.declared.Follower.{Follower}
@@ -53,7 +53,7 @@ module _ (source : Source) where
   handed_right (b ∷ l) m h = handed_right l m h.1
 
   -- what is met was written
-  met_copy : (p : Packet) (b : List ℕ) → Carried source b → read_packet b ≡ ReadPacket.Packet p → source.Written p
+  met_copy : (p : Packet) (b : List ℕ) → Carried source b → read_packet b ≡ Ok p → source.Written p
   met_copy p b (copy q w e) r = subst (λ z. source.Written z) (one_packet (read_back source q b w e) r) w
   met_copy p b (turned_back n e) r = absurd (not_refused r e)
 
@@ -137,7 +137,7 @@ module _ (source : Source) where
       go false t = absurd (k (ltb-false p.number floor t))
 
   demand_d : (l : List (List ℕ)) (b : List ℕ) → AllCarried source l → Carried source b → FollowerLost (follower_after l) →
-      ((p : Picture) → read_packet b ≡ ReadPacket.Packet (Packet.Picture p) → NoLower p.number l → ⊥) → FollowerLost (follower_after (l ++ (b ∷ [])))
+      ((p : Picture) → read_packet b ≡ Ok (Packet.Picture p) → NoLower p.number l → ⊥) → FollowerLost (follower_after (l ++ (b ∷ [])))
   demand_d l b h g lost k = subst FollowerLost (sym (takes_on_lem fresh l (b ∷ []))) (go g)
     where
       f : Follower
@@ -147,13 +147,13 @@ module _ (source : Source) where
       good = subst (λ x. GoodAt source (In l) x f.held) lost.1 (kept_after l h).good
 
       go : Carried source b → FollowerLost (take_bytes f b)
-      go (turned_back n e) = subst (λ (x : ReadPacket). FollowerLost (taken_read f x)) (sym e) lost
+      go (turned_back n e) = subst (λ (x : Result Packet ℕ). FollowerLost (taken_read f x)) (sym e) lost
       go (copy (Packet.Event y) w e) =
-          subst (λ (x : ReadPacket). FollowerLost (taken_read f x)) (sym (read_back source (Packet.Event y) b w e))
+          subst (λ (x : Result Packet ℕ). FollowerLost (taken_read f x)) (sym (read_back source (Packet.Event y) b w e))
           (subst (λ (x : Shown). FollowerLost (taken_at x f.held (Packet.Event y))) (sym lost.1) (_, refl))
       go (copy (Packet.Picture y) w e) =
           let r = read_back source (Packet.Picture y) b w e in
-          subst (λ (x : ReadPacket). FollowerLost (taken_read f x)) (sym r)
+          subst (λ (x : Result Packet ℕ). FollowerLost (taken_read f x)) (sym r)
           (subst (λ (x : Shown). FollowerLost (taken_at x f.held (Packet.Picture y))) (sym lost.1)
           (lost.0, lost_stays lost.0 f.held y (λ q. k y r (λ v m. omega (arith, good.0 v m, q)))))
 
@@ -163,16 +163,16 @@ module _ (source : Source) where
       (fine : (e : EventPacket) → source.Written (Packet.Event e) → n < e.number → e.number ≤ most → e.answer ≡ 0) where
     -- one take: shown stays shown
     one-stays : (S : EventPacket → Type 0) → ((e : EventPacket) → S e → All e) → (f : Follower) (b : List ℕ) → Carried source b →
-        ((e : EventPacket) → read_packet b ≡ ReadPacket.Packet (Packet.Event e) → All e) →
-        ((p : Picture) → read_packet b ≡ ReadPacket.Packet (Packet.Picture p) → p.number ≤ most) →
+        ((e : EventPacket) → read_packet b ≡ Ok (Packet.Event e) → All e) →
+        ((p : Picture) → read_packet b ≡ Ok (Packet.Picture p) → p.number ≤ most) →
         Kept source S f → ShownFrom most n f.shown → ShownFrom most n (take_bytes f b).shown
     one-stays S among f b (turned_back m e) ev pi k t = subst (λ x. ShownFrom most n (taken_read f x).shown) (sym e) t
     one-stays S among f b (copy (Packet.Event y) w e) ev pi k t =
-        let r : read_packet b ≡ ReadPacket.Packet (Packet.Event y) = read_back source (Packet.Event y) b w e in
+        let r : read_packet b ≡ Ok (Packet.Event y) = read_back source (Packet.Event y) b w e in
         subst (λ x. ShownFrom most n (taken_read f x).shown) (sym r)
         (event-stays most n source All near bounded fine S among f y k t w (ev y r))
     one-stays S among f b (copy (Packet.Picture y) w e) ev pi k t =
-        let r : read_packet b ≡ ReadPacket.Packet (Packet.Picture y) = read_back source (Packet.Picture y) b w e in
+        let r : read_packet b ≡ Ok (Packet.Picture y) = read_back source (Packet.Picture y) b w e in
         subst (λ x. ShownFrom most n (taken_read f x).shown) (sym r)
         (picture-stays most n source All near bounded fine S among f y k t (pi y r))
 

@@ -1,6 +1,7 @@
 -- Whole lists: by induction, each take one step of OneTake.antt. Bytes that were written are read as what was written, and bytes that are
 -- turned back change nothing.
-use mathlib.Core.Path.{◌≡◌, refl, ap, sym, ◌∙◌, subst}
+use Rattle.std.specs.Prelude.{Err, Ok, Result}
+use mathlib.Core.Path.{◌≡◌, ap, sym, ◌∙◌, subst}
 use mathlib.Core.Bool.{Bool, true, ◌&&◌}
 use mathlib.Core.List.{List, [], ◌∷◌}
 use mathlib.Core.Logic.{◌⊎◌, inl, inr, ⊎_elim}
@@ -14,7 +15,6 @@ use Rattle.interface_display.specs.declared.packet.Picture.{Picture}
 use Rattle.wire.specs.Bytes.{packet_bytes}
 use Rattle.wire.specs.Read.{read_packet}
 use Rattle.wire.specs.WellFormed.{well_formed, notices_fit, event_fits, picture_fits}
-use Rattle.wire.specs.declared.packet.ReadPacket.{ReadPacket}
 use Rattle.wire.proofs.OnePacket.{read_write}
 use Rattle.power_policy_interface.proofs.Conjunction.{and_left, and_right}
 use Rattle.desk_follower.specs.Follower.{taken}
@@ -45,33 +45,22 @@ readable (Packet.Event e) w =
 readable (Packet.Picture p) w = leb-true p.number 4294967295 (and_left (leb p.number 4294967295) _ w)
 
 module _ (source : Source) where
-  pub read_back : (p : Packet) (b : List ℕ) → source.Written p → b ≡ packet_bytes p → read_packet b ≡ ReadPacket.Packet p
+  pub read_back : (p : Packet) (b : List ℕ) → source.Written p → b ≡ packet_bytes p → read_packet b ≡ Ok p
   read_back p b w e = ap read_packet e ∙ read_write p (source.fits p w)
 
 -- what is read is one thing
 
-abbrev pub Is : Packet → ReadPacket → Type 0
-Is p (ReadPacket.Refused n) = ⊥
-Is p (ReadPacket.Packet q) = p ≡ q
+pub not_refused : {p : Packet} {n : ℕ} {x : Result Packet ℕ} → x ≡ Ok p → x ≡ Err n → ⊥
+not_refused e f = cc
 
-is_read_lem : (p : Packet) (x : ReadPacket) → x ≡ ReadPacket.Packet p → Is p x
-is_read_lem p x e = subst (Is p) (sym e) refl
-
-pub not_refused : {p : Packet} {n : ℕ} {x : ReadPacket} → x ≡ ReadPacket.Packet p → x ≡ ReadPacket.Refused n → ⊥
-not_refused {p} e f = subst (Is p) f (is_read_lem p _ e)
-
-pub one_packet : {p q : Packet} {x : ReadPacket} → x ≡ ReadPacket.Packet p → x ≡ ReadPacket.Packet q → p ≡ q
-one_packet {p} e f = subst (Is p) f (is_read_lem p _ e)
-
-abbrev pub IsEvent : EventPacket → Packet → Type 0
-IsEvent e (Packet.Event f) = e ≡ f
-IsEvent e (Packet.Picture p) = ⊥
+pub one_packet : {p q : Packet} {x : Result Packet ℕ} → x ≡ Ok p → x ≡ Ok q → p ≡ q
+one_packet e f = cc
 
 pub one_event : {e f : EventPacket} → Packet.Event e ≡ Packet.Event f → e ≡ f
-one_event {e} q = subst (IsEvent e) q refl
+one_event q = cc
 
 pub not_picture : {e : EventPacket} {p : Picture} → Packet.Event e ≡ Packet.Picture p → ⊥
-not_picture {e} q = subst (IsEvent e) q refl
+not_picture q = cc
 
 -- the same packets met, said otherwise
 
@@ -103,15 +92,15 @@ module _ (source : Source) (Seen : EventPacket → Type 0) (f : Follower) (b : L
       (kept_same source Seen (Or Seen (b ∷ [])) (λ x q. inl q)
       (λ x q. ⊎_elim (λ s. s) (λ m. ⊎_elim (λ r. absurd (not_refused r e)) (λ z. absurd z) m) q) f k)
   one_kept (copy (Packet.Event y) w e) k =
-      let r : read_packet b ≡ ReadPacket.Packet (Packet.Event y) = read_back source (Packet.Event y) b w e in
+      let r : read_packet b ≡ Ok (Packet.Event y) = read_back source (Packet.Event y) b w e in
       subst (λ x. Kept source (Or Seen (b ∷ [])) (taken_read f x)) (sym r)
       (kept_same source (With Seen y) (Or Seen (b ∷ []))
-      (λ x q. ⊎_elim (λ s. inl s) (λ i. inr (inl (r ∙ ap (λ z. ReadPacket.Packet (Packet.Event z)) (sym i)))) q)
+      (λ x q. ⊎_elim (λ s. inl s) (λ i. inr (inl (r ∙ ap (λ z. Ok (Packet.Event z)) (sym i)))) q)
       (λ x q. ⊎_elim (λ s. inl s) (λ m. ⊎_elim (λ z. inr (one_event (one_packet z r))) (λ z. absurd z) m) q)
       (taken f (Packet.Event y))
       (event_kept source Seen f y (readable (Packet.Event y) (source.fits (Packet.Event y) w)) w k))
   one_kept (copy (Packet.Picture y) w e) k =
-      let r : read_packet b ≡ ReadPacket.Packet (Packet.Picture y) = read_back source (Packet.Picture y) b w e in
+      let r : read_packet b ≡ Ok (Packet.Picture y) = read_back source (Packet.Picture y) b w e in
       subst (λ x. Kept source (Or Seen (b ∷ [])) (taken_read f x)) (sym r)
       (kept_same source Seen (Or Seen (b ∷ [])) (λ x q. inl q)
       (λ x q. ⊎_elim (λ s. s) (λ m. ⊎_elim (λ z. absurd (not_picture (one_packet z r))) (λ z. absurd z) m) q)

@@ -1,7 +1,6 @@
 -- The follower of the code, whose packets wait in a ring of eight places, and the abstract
 -- one, whose packets wait in a list: they do and say the same. Proved in proofs/Alike.antt.
-use Rattle.std.specs.Prelude.{ℕ, zero, suc, ◌+◌, ◌≤◌, cond, List, [], ◌∷◌, ◌++◌, ◌↔◌, ◌≡◌}
-use Rattle.std.proofs.Math.Option.{none, some}
+use Rattle.std.specs.Prelude.{ℕ, zero, suc, ◌+◌, ◌≤◌, cond, List, [], ◌∷◌, ◌++◌, ◌↔◌, ◌≡◌, None, Some}
 use Rattle.power_policy_interface.specs.Limits.{window}
 use Rattle.interface_display.specs.declared.Display.{Display}
 use Rattle.interface_display.specs.declared.packet.EventPacket.{EventPacket}
@@ -47,8 +46,8 @@ pub record Alike : Type 0 where
   -- they say the same state,
   pub state : (f : Follower) → WellFormed f → state_of f ≡ paper.state (seen f)
   -- are lost alike, and show the same
-  pub lost : (f : Follower) → FollowerLost f ↔ (paper.shown (seen f) ≡ none)
-  pub shows : (f : Follower) (n : ℕ) (d : Display) → FollowerShows f n d ↔ (paper.shown (seen f) ≡ some (record { number = n; display = d }))
+  pub lost : (f : Follower) → FollowerLost f ↔ (paper.shown (seen f) ≡ None)
+  pub shows : (f : Follower) (n : ℕ) (d : Display) → FollowerShows f n d ↔ (paper.shown (seen f) ≡ Some (record { number = n; display = d }))
   -- from a fresh follower on, after any bytes taken, they are alike
   pub takes_alike : (l : List (List ℕ)) → EachBytes l → seen (follower_after l) ≡ paper_after l
   -- and say the same

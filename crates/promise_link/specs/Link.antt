@@ -1,5 +1,5 @@
 -- Demand 3's theorem: what a fresh follower shows after any list of takes, for any writer.
-use Rattle.std.specs.Prelude.{ℕ, ◌+◌, ◌≤◌, ◌<◌, List, [], ◌∷◌, ◌++◌, ◌⊎◌, ◌≡◌}
+use Rattle.std.specs.Prelude.{ℕ, ◌+◌, ◌≤◌, ◌<◌, List, [], ◌∷◌, ◌++◌, ◌⊎◌, ◌≡◌, Ok}
 use Rattle.power_policy_interface.specs.Limits.{window}
 use Rattle.interface_display.specs.declared.Display.{Display}
 use Rattle.interface_display.specs.declared.packet.EventPacket.{EventPacket}
@@ -7,7 +7,6 @@ use Rattle.interface_display.specs.declared.packet.Packet.{Packet}
 use Rattle.interface_display.specs.declared.packet.Picture.{Picture}
 use Rattle.wire.specs.Bytes.{packet_bytes}
 use Rattle.wire.specs.Read.{read_packet}
-use Rattle.wire.specs.declared.packet.ReadPacket.{ReadPacket}
 use Rattle.desk_follower.specs.Follower.{fresh}
 use Rattle.desk_follower.specs.declared.Follower.{Follower}
 use Rattle.promise_link.specs.Source.{Source, number_in}
@@ -48,5 +47,5 @@ pub record Demand3 (source : Source) : Type 0 where
   -- whatever else is handed to it, it stays lost
   pub d :
       (before : List (List ℕ)) (b : List ℕ) → AllCarried source before → Carried source b → FollowerLost (follower_after before) →
-      ((p : Picture) → read_packet b ≡ ReadPacket.Packet (Packet.Picture p) → NoLower p.number before → ⊥) →
+      ((p : Picture) → read_packet b ≡ Ok (Packet.Picture p) → NoLower p.number before → ⊥) →
       FollowerLost (follower_after (before ++ (b ∷ [])))

@@ -1,5 +1,6 @@
 -- DEM-1a over whole runs: in every run the service stays within what a start registers, so that each event that it accepts is bounded and
 -- leaves its packet (machine_follows Serves.antt); and a call that is turned back leaves the service as it was.
+use Rattle.std.specs.Prelude.{Result}
 use mathlib.Core.Path.{◌≡◌, refl, sym, ap, ◌∙◌, subst}
 use mathlib.Core.Bool.{false}
 use mathlib.Core.List.{List, [], ◌∷◌}
@@ -7,7 +8,7 @@ use Prim.Native.Nat.{ℕ, suc}
 use lib.Dec.{eqb}
 use lib.ListN.{length}
 use Rattle.power_policy_interface.specs.Psu.{answer_byte}
-use Rattle.power_policy_interface.specs.declared.psu.Result.{Result}
+use Rattle.power_policy_interface.specs.declared.psu.Error.{Error}
 use Rattle.interface_display.specs.Notices as display
 use Rattle.abstract_policy.specs.Refusals.{first_refused}
 use Rattle.abstract_policy.specs.Given.{event_of}
@@ -41,11 +42,11 @@ runs_registered (c ∷ l) s held before cf x =
 
 -- an event that has closed leaves its packet
 
-abbrev IsDone : Result → Held → Interaction → Type 0
+abbrev IsDone : Result (Unit {0}) Error → Held → Interaction → Type 0
 IsDone a h (done b k) = (b ≡ a) × (k ≡ h)
 IsDone a h (ask o k) = ⊥
 
-packs_at : (g : Registration) (p : Phase) (m : Memory) (a : Result) (h : Held) → IsDone a h (stands_at g p m) →
+packs_at : (g : Registration) (p : Phase) (m : Memory) (a : Result (Unit {0}) Error) (h : Held) → IsDone a h (stands_at g p m) →
     (answer_byte_of p ≡ answer_byte a) × (display.listed (notices_of m.notices) ≡ h.notices) × (m.state ≡ h.state)
 packs_at g (Phase.Closed b) m a h q = (ap answer_byte q.0, listed_same m.notices ∙ ap (λ (x : Held). x.notices) q.1, ap (λ (x : Held). x.state) q.1)
 packs_at g (Phase.Leaving i p f) m a h q = absurd q
@@ -53,12 +54,12 @@ packs_at g (Phase.Switching l old f new) m a h q = absurd q
 packs_at g (Phase.Connecting s new) m a h q = absurd q
 packs_at g (Phase.Providing p c) m a h q = absurd q
 
-pub closed_packet : (s : Service) (g : Registration) (number given : ℕ) (a : Result) (h : Held) → Stands s g number given (done a h) → Packs s a h number given
+pub closed_packet : (s : Service) (g : Registration) (number given : ℕ) (a : Result (Unit {0}) Error) (h : Held) → Stands s g number given (done a h) → Packs s a h number given
 closed_packet s g number given a h t =
     let q = packs_at g s.phase s.memory a h (subst (IsDone a h) (sym t.left) (refl, refl)) in
     record { number = t.numbered; answer = q.0; orders = t.counted; notices = q.1; held = q.2 }
 
-event_packet : (s : Service) (kind device detail : ℕ) (r : Records) (l : Answers) (a : Result) (h : Held) → Registered s → Opens s kind device detail →
+event_packet : (s : Service) (kind device detail : ℕ) (r : Records) (l : Answers) (a : Result (Unit {0}) Error) (h : Held) → Registered s → Opens s kind device detail →
     fed_by (event_at s kind device detail r) l ≡ done a h →
     Packs (service_after (open_of s kind device detail r).service l) a h (suc s.number) (length (orders_by (event_at s kind device detail r) l))
 event_packet s kind device detail r l a h g o e =

@@ -1,4 +1,5 @@
 -- The theorems are not empty: a run with a switch, an error and a provider, and takes that lose, repeat and reorder. All of it is computed.
+use Rattle.std.specs.Prelude.{Err, None, Ok, Option, Result, Some}
 use mathlib.Core.Path.{◌≡◌, refl, ap}
 use mathlib.Core.Logic.{inl, inr, ⊎_elim}
 use native.Mathlib.Omega.{arith}
@@ -7,10 +8,6 @@ use mathlib.Core.List.{List, [], ◌∷◌, ◌++◌}
 use Prim.Native.Nat.{ℕ, zero, suc, ◌<◌, ◌≤◌}
 use Rattle.power_policy_interface.specs.declared.capability.ConsumerPowerCapability.{ConsumerPowerCapability}
 use Rattle.power_policy_interface.specs.declared.capability.DisconnectReason.{DisconnectReason}
-use Rattle.power_policy_interface.specs.declared.capability.OptionConsumerPowerCapability.{OptionConsumerPowerCapability}
-use Rattle.power_policy_interface.specs.declared.capability.OptionProviderPowerCapability.{OptionProviderPowerCapability}
-use Rattle.power_policy_interface.specs.declared.capability.OptionDisconnectReason.{OptionDisconnectReason}
-use Rattle.power_policy_interface.specs.declared.capability.OptionPsuType.{OptionPsuType}
 use Rattle.power_policy_interface.specs.declared.capability.ProviderPowerCapability.{ProviderPowerCapability}
 use Rattle.power_policy_interface.specs.declared.psu.PsuState.{PsuState}
 use Rattle.power_policy_interface.specs.declared.psu.State.{State}
@@ -23,10 +20,8 @@ use Rattle.abstract_policy.specs.Interaction as policy
 use Rattle.abstract_policy.specs.Policy.{Call, open_event, give_answer, write_packet, write_picture, started, held_at, policies}
 use Rattle.abstract_policy.specs.Returns.{pushed_all, packet_to}
 use Rattle.abstract_policy.specs.declared.state.Records.{Records}
-use Rattle.abstract_policy.specs.declared.outcome.SentPacket.{SentPacket}
 use Rattle.machine_service.specs.Service.{fresh_service, start_of}
 use Rattle.machine_service.specs.declared.Service.{Service}
-use Rattle.machine_service.specs.declared.Started.{Started}
 use Rattle.machine_service.specs.Send.{packet_of, picture_of}
 use Rattle.wire.specs.Bytes.{packet_bytes}
 use Rattle.wire.specs.Bytes as bytes
@@ -34,7 +29,6 @@ use Rattle.wire.specs.Number as number
 use Rattle.wire.specs.Packet as wire
 use Rattle.wire.specs.Parser as parser
 use Rattle.wire.specs.Read.{read_packet}
-use Rattle.wire.specs.declared.packet.ReadPacket.{ReadPacket}
 use Rattle.desk_follower.specs.Follower as follower
 use Rattle.desk_follower.specs.Held as held
 use Rattle.desk_follower.specs.Follower.{fresh}
@@ -51,10 +45,10 @@ abbrev offer : ℕ → ℕ → ConsumerPowerCapability
 offer v a =
     record {
       capability = record { voltage_mv = v; current_ma = a };
-      flags = record { unconstrained_power = false; psu_type = OptionPsuType.None };
+      flags = record { unconstrained_power = false; psu_type = None };
     }
 
-abbrev psu : PsuState → OptionConsumerPowerCapability → OptionProviderPowerCapability → State
+abbrev psu : PsuState → Option ConsumerPowerCapability → Option ProviderPowerCapability → State
 psu p c r = record { psu_state = p; consumer_capability = c; requested_provider_capability = r }
 
 abbrev weak : ConsumerPowerCapability
@@ -64,27 +58,27 @@ abbrev strong : ConsumerPowerCapability
 strong = offer 20000 5000
 
 abbrev request : ProviderPowerCapability
-request = record { capability = record { voltage_mv = 5000; current_ma = 500 }; flags = record { psu_type = OptionPsuType.None } }
+request = record { capability = record { voltage_mv = 5000; current_ma = 500 }; flags = record { psu_type = None } }
 
 -- port 0 offers little; then port 1 offers more; then port 0 asks for power
 abbrev first : Records
 first =
     record {
-      psus = psu PsuState.Idle (OptionConsumerPowerCapability.Some weak) OptionProviderPowerCapability.None ∷ psu PsuState.Detached OptionConsumerPowerCapability.None OptionProviderPowerCapability.None ∷ [];
+      psus = psu PsuState.Idle (Some weak) None ∷ psu PsuState.Detached None None ∷ [];
       chargers = [];
     }
 
 abbrev second : Records
 second =
     record {
-      psus = psu (PsuState.ConnectedConsumer weak) (OptionConsumerPowerCapability.Some weak) OptionProviderPowerCapability.None ∷ psu PsuState.Idle (OptionConsumerPowerCapability.Some strong) OptionProviderPowerCapability.None ∷ [];
+      psus = psu (PsuState.ConnectedConsumer weak) (Some weak) None ∷ psu PsuState.Idle (Some strong) None ∷ [];
       chargers = [];
     }
 
 abbrev third : Records
 third =
     record {
-      psus = psu PsuState.Idle OptionConsumerPowerCapability.None (OptionProviderPowerCapability.Some request) ∷ psu (PsuState.ConnectedConsumer strong) (OptionConsumerPowerCapability.Some strong) OptionProviderPowerCapability.None ∷ [];
+      psus = psu PsuState.Idle None (Some request) ∷ psu (PsuState.ConnectedConsumer strong) (Some strong) None ∷ [];
       chargers = [];
     }
 
@@ -138,15 +132,15 @@ shows_four = refl
 
 -- the premises of DEM-3b hold of these takes, with n = 0 and k = 2
 
-reads_start : read_packet (picture []) ≡ ReadPacket.Packet (Packet.Picture (picture_of start))
+reads_start : read_packet (picture []) ≡ Ok (Packet.Picture (picture_of start))
 unfolding bytes.capability_bytes bytes.contract_bytes bytes.notice_bytes bytes.event_bytes bytes.consumer_bytes bytes.ports_bytes bytes.picture_bytes number.leb128 number.read_number parser.field parser.number wire.capability wire.contract wire.consumer wire.unconstrained wire.consumer_disconnected wire.consumer_connected wire.provider_disconnected wire.provider_connected wire.unconstrained_changed wire.notice_of wire.notice wire.event_notices wire.event_after wire.event wire.picture_after wire.picture wire.packet_of wire.packet held.none_held held.greatest held.above follower.in_turn policy.update_unconstrained_state policy.attach_charger policy.post_consumer_connected policy.detach_charger policy.disconnect_chargers policy.disconnect_current policy.connect_consumer policy.connect_new_consumer policy.connect_best policy.update_current_consumer policy.post_provider_connected policy.provide policy.connect_provider policy.remove_provider policy.post_provider_removed policy.process_psu_event
 reads_start = refl
 
-reads_one : read_packet (event one) ≡ ReadPacket.Packet (Packet.Event (packet_of (services start one)))
+reads_one : read_packet (event one) ≡ Ok (Packet.Event (packet_of (services start one)))
 unfolding bytes.capability_bytes bytes.contract_bytes bytes.notice_bytes bytes.event_bytes bytes.consumer_bytes bytes.ports_bytes bytes.picture_bytes number.leb128 number.read_number parser.field parser.number wire.capability wire.contract wire.consumer wire.unconstrained wire.consumer_disconnected wire.consumer_connected wire.provider_disconnected wire.provider_connected wire.unconstrained_changed wire.notice_of wire.notice wire.event_notices wire.event_after wire.event wire.picture_after wire.picture wire.packet_of wire.packet held.none_held held.greatest held.above follower.in_turn policy.update_unconstrained_state policy.attach_charger policy.post_consumer_connected policy.detach_charger policy.disconnect_chargers policy.disconnect_current policy.connect_consumer policy.connect_new_consumer policy.connect_best policy.update_current_consumer policy.post_provider_connected policy.provide policy.connect_provider policy.remove_provider policy.post_provider_removed policy.process_psu_event
 reads_one = refl
 
-reads_two : read_packet (event two) ≡ ReadPacket.Packet (Packet.Event (packet_of (services start two)))
+reads_two : read_packet (event two) ≡ Ok (Packet.Event (packet_of (services start two)))
 unfolding bytes.capability_bytes bytes.contract_bytes bytes.notice_bytes bytes.event_bytes bytes.consumer_bytes bytes.ports_bytes bytes.picture_bytes number.leb128 number.read_number parser.field parser.number wire.capability wire.contract wire.consumer wire.unconstrained wire.consumer_disconnected wire.consumer_connected wire.provider_disconnected wire.provider_connected wire.unconstrained_changed wire.notice_of wire.notice wire.event_notices wire.event_after wire.event wire.picture_after wire.picture wire.packet_of wire.packet held.none_held held.greatest held.above follower.in_turn policy.update_unconstrained_state policy.attach_charger policy.post_consumer_connected policy.detach_charger policy.disconnect_chargers policy.disconnect_current policy.connect_consumer policy.connect_new_consumer policy.connect_best policy.update_current_consumer policy.post_provider_connected policy.provide policy.connect_provider policy.remove_provider policy.post_provider_removed policy.process_psu_event
 reads_two = refl
 
@@ -159,7 +153,7 @@ comes (suc zero) l m = (packet_of (services start one), inr (inr (inl reads_one)
 comes (suc (suc zero)) l m = (packet_of (services start two), inl reads_two, refl, refl)
 comes (suc (suc (suc j))) l m = absurd (omega (arith, m))
 
-numbered : {p q : Packet} {x : ReadPacket} → x ≡ ReadPacket.Packet p → x ≡ ReadPacket.Packet q → number_in p ≡ number_in q
+numbered : {p q : Packet} {x : Result Packet ℕ} → x ≡ Ok p → x ≡ Ok q → number_in p ≡ number_in q
 numbered e f = ap number_in (one_packet e f)
 
 pub nothing_above : (p : Packet) → Met p mixed → number_in p ≤ 2
@@ -247,21 +241,21 @@ by_theorem =
 
 -- the packets that the definition says: event 2 has three orders and two notices, event 3 its error, one order and no notice
 
-pub says_none : packet_to (started start.registration) ≡ SentPacket.Refused 27
+pub says_none : packet_to (started start.registration) ≡ Err 27
 says_none = refl
 
 pub says_two : packet_to (policies (started start.registration) two)
-    ≡ SentPacket.Packet (record { number = 2; answer = 0; orders = 3; notices = pushed_all empty (Event.ConsumerDisconnected 0 (record { reason = OptionDisconnectReason.Some DisconnectReason.Switching }) ∷ Event.ConsumerConnected 1 strong ∷ []) })
+    ≡ Ok (record { number = 2; answer = 0; orders = 3; notices = pushed_all empty (Event.ConsumerDisconnected 0 (record { reason = Some DisconnectReason.Switching }) ∷ Event.ConsumerConnected 1 strong ∷ []) })
 unfolding policy.update_unconstrained_state policy.attach_charger policy.post_consumer_connected policy.detach_charger policy.disconnect_chargers policy.disconnect_current policy.connect_consumer policy.connect_new_consumer policy.connect_best policy.update_current_consumer policy.post_provider_connected policy.provide policy.connect_provider policy.remove_provider policy.post_provider_removed policy.process_psu_event
 says_two = refl
 
-pub says_three : packet_to (policies (started start.registration) three) ≡ SentPacket.Packet (record { number = 3; answer = 7; orders = 1; notices = empty })
+pub says_three : packet_to (policies (started start.registration) three) ≡ Ok (record { number = 3; answer = 7; orders = 1; notices = empty })
 unfolding policy.update_unconstrained_state policy.attach_charger policy.post_consumer_connected policy.detach_charger policy.disconnect_chargers policy.disconnect_current policy.connect_consumer policy.connect_new_consumer policy.connect_best policy.update_current_consumer policy.post_provider_connected policy.provide policy.connect_provider policy.remove_provider policy.post_provider_removed policy.process_psu_event
 says_three = refl
 
 -- a start with these figures is accepted, so that the demands hold of it
 
-pub accepted : start_of (config_from 15000 5000 3000 5000 1500 0 0) 2 0 ≡ Started.Service start
+pub accepted : start_of (config_from 15000 5000 3000 5000 1500 0 0) 2 0 ≡ Ok start
 accepted = refl
 
 pub demands : Demands start

@@ -1,6 +1,7 @@
 -- DEM-1 to DEM-3 for a run of the service: machine and definition go through it together (Returns.antt), the run is a writer on the link
 -- (Writer.antt), and the link's theorem holds for every writer. An accepted start is a fresh service with its figures in their types
 -- (Starts.antt), where machine and definition begin alike.
+use Rattle.std.specs.Prelude.{Ok}
 use mathlib.Core.Path.{◌≡◌, refl, sym, ap, ◌∙◌, subst}
 use mathlib.Core.List.{List}
 use Prim.Native.Nat.{ℕ, ◌≤◌}
@@ -12,7 +13,6 @@ use Rattle.abstract_policy.specs.State.{fresh_state}
 use Rattle.abstract_policy.specs.Policy.{Call, started, held_at, policies}
 use Rattle.machine_service.specs.Service.{fresh_service, start_of}
 use Rattle.machine_service.specs.declared.Service.{Service}
-use Rattle.machine_service.specs.declared.Started.{Started}
 use Rattle.promise_link.specs.Link.{Demand3}
 use Rattle.promise_link.specs.Source.{Source}
 use Rattle.promise_link.proofs.Demand.{demand_3}
@@ -95,7 +95,7 @@ fresh_demands config ports chargers p c f = record {
 }
 
 pub after_start : (threshold unlimited_mv unlimited_ma limited_mv limited_ma presence minimum ports chargers : ℕ) (s : Service) →
-    start_of (config_from threshold unlimited_mv unlimited_ma limited_mv limited_ma presence minimum) ports chargers ≡ Started.Service s → Demands s
+    start_of (config_from threshold unlimited_mv unlimited_ma limited_mv limited_ma presence minimum) ports chargers ≡ Ok s → Demands s
 after_start threshold unlimited_mv unlimited_ma limited_mv limited_ma presence minimum ports chargers s e =
     let f : StartFits ports chargers s = start_fits threshold unlimited_mv unlimited_ma limited_mv limited_ma presence minimum ports chargers s e in
     subst Demands (sym f.fresh) (fresh_demands f.config ports chargers f.few_ports f.few_chargers f.figures)

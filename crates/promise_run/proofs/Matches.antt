@@ -1,5 +1,6 @@
 -- The machine and the definition go through a run together: a call that is turned back changes neither, an accepted one leads both to the
 -- same rest (machine_follows Follows.antt), and at each close the notices lead from what was held before (abstract_policy Carries.antt).
+use Rattle.std.specs.Prelude.{Ok, Result, Some}
 use mathlib.Core.Path.{◌≡◌, refl, sym, ap, ◌∙◌, subst}
 use mathlib.Core.Bool.{Bool, true, false, cond}
 use mathlib.Core.List.{List, []}
@@ -7,7 +8,7 @@ use Prim.Native.Nat.{ℕ, zero, suc, ◌+◌, ◌*◌, ◌<◌, ◌≤◌}
 use native.Mathlib.Omega.{arith}
 use lib.Dec.{leb, eqb}
 use borrow.Author.Tests.{le-leb, leb-false, eqb-true, eqb-false}
-use Rattle.power_policy_interface.specs.declared.psu.Result.{Result}
+use Rattle.power_policy_interface.specs.declared.psu.Error.{Error}
 use Rattle.power_policy_interface.specs.declared.service.event.Event.{Event}
 use Rattle.interface_display.specs.Notices.{applied_all}
 use Rattle.power_policy_service.specs.Config.{ConfigFits}
@@ -21,7 +22,6 @@ use Rattle.abstract_policy.specs.Policy.{Call, open_event, give_answer, write_pa
 use Rattle.abstract_policy.specs.declared.state.InternalState.{InternalState}
 use Rattle.abstract_policy.specs.declared.state.Records.{Records}
 use Rattle.abstract_policy.specs.declared.state.Registration.{Registration}
-use Rattle.abstract_policy.specs.declared.order.OptionOrder.{OptionOrder}
 use Rattle.abstract_policy.specs.declared.order.Order.{Order}
 use Rattle.abstract_policy.specs.declared.outcome.Step.{Step}
 use Rattle.abstract_policy.proofs.Bound.{event_bound}
@@ -49,16 +49,16 @@ use Rattle.promise_run.proofs.Sized.{StateFits, HeldFits, Sized, event_sized}
 -- what the event closed last has left
 pub record Last : Type 0 where
   pub state : InternalState
-  pub answer : Result
+  pub answer : Result (Unit {0}) Error
   pub orders : ℕ
   pub notices : List Event
 
-abbrev pub last_of : ℕ → Result → Held → Last
+abbrev pub last_of : ℕ → Result (Unit {0}) Error → Held → Last
 last_of given a h = record { state = h.state; answer = a; orders = given; notices = h.notices }
 
 -- nothing yet
 abbrev pub first_last : Last
-first_last = last_of 0 Result.Ok (record { state = fresh_state; notices = [] })
+first_last = last_of 0 (Ok tt) (record { state = fresh_state; notices = [] })
 
 -- the definition where the machine is, with what the event closed last has left
 abbrev pub policy_of : Service → Last → Policy
@@ -86,10 +86,10 @@ pub record Open (g : Registration) (number given : ℕ) (p : Phase) (m : Memory)
   pub sized : Sized (stands_at g p m)
 
 -- a closed one: what it left is what the machine has, and without error its notices lead there from what was held before
-pub record Closed (given : ℕ) (a : Result) (m : Memory) (held : Last) (before : InternalState) : Type 0 where
+pub record Closed (given : ℕ) (a : Result (Unit {0}) Error) (m : Memory) (held : Last) (before : InternalState) : Type 0 where
   pub same : last_of given a (held_of m) ≡ held
   pub few : given ≤ 35
-  pub leads : a ≡ Result.Ok → display_of held.state ≡ applied_all (listed m.notices) (display_of before)
+  pub leads : a ≡ (Ok tt) → display_of held.state ≡ applied_all (listed m.notices) (display_of before)
   pub sized : HeldFits (held_of m)
 
 abbrev pub StateAt : Registration → ℕ → ℕ → Phase → Memory → Last → InternalState → Type 0
@@ -210,7 +210,7 @@ went g number given k more t q n held before c i le nb e f am su ca sz pol =
 -- an answer at an open phase
 
 answer_goes : (g : Registration) (number k : ℕ) (p : Phase) (m : Memory) (held : Last) (before : InternalState) (o : Order) (a : ℕ) (r : Records) → Limits g → RecordsFit r → number ≤ 4294967295 →
-    order_of p ≡ OptionOrder.Some o → stands_at g p m ≡ ask o (λ x y. rest g p x (held_of m) y close) →
+    order_of p ≡ Some o → stands_at g p m ≡ ask o (λ x y. rest g p x (held_of m) y close) →
     stands_for g (answered_of g p o m (result_of a) r) ≡ rest g p (result_of a) (held_of m) r close →
     StateAt g number k p m held before → Open g number k p m held →
     Went (service g number k p m) held before (give_answer a r) (answer_of (service g number k p m) a r).service
@@ -272,7 +272,7 @@ module _ (g : Registration) (number k : ℕ) (kind device detail : ℕ) (r : Rec
   conditions waits = first_refused (open_conditions g.ports g.chargers waits number kind device detail)
 
   -- between events: the machine and the definition open the same event
-  open_closed : (a : Result) (m : Memory) (held : Last) (before : InternalState) → Limits g → RecordsFit r → number ≤ 4294967295 → Closed k a m held before →
+  open_closed : (a : Result (Unit {0}) Error) (m : Memory) (held : Last) (before : InternalState) → Limits g → RecordsFit r → number ≤ 4294967295 → Closed k a m held before →
       Went (service g number k (Phase.Closed a) m) held before (open_event kind device detail r) (open_of (service g number k (Phase.Closed a) m) kind device detail r).service
   open_closed a m held before le rf nb st = go (eqb (conditions false) 0) refl (eqb kind 5) refl
     where
@@ -295,13 +295,13 @@ module _ (g : Registration) (number k : ℕ) (kind device detail : ℕ) (r : Rec
           Went s held before (open_event kind device detail r) (open_of s kind device detail r).service
       go false ex y ey =
           subst (λ z. Went s held before (open_event kind device detail r) z)
-          (sym (ap (λ b. (cond b (cond (eqb kind 5) (stepped (Step.Closed Result.Ok 0) s) (opened_of s device (event_of kind detail) r)) (refused (conditions false) s)).service) ex))
+          (sym (ap (λ b. (cond b (cond (eqb kind 5) (stepped (Ok (Step.Closed (Ok tt) 0)) s) (opened_of s device (event_of kind detail) r)) (refused (conditions false) s)).service) ex))
           (stayed s held before (open_event kind device detail r) runs
           (ap (λ b. cond b (cond (eqb kind 5) (policy_of s held) (proceeds (policy_of s held) 0 i)) (policy_of s held)) ex))
       go true ex true ey =
           subst (λ z. Went s held before (open_event kind device detail r) z)
-          (sym (ap (λ b. (cond b (cond (eqb kind 5) (stepped (Step.Closed Result.Ok 0) s) (opened_of s device (event_of kind detail) r)) (refused (conditions false) s)).service) ex
-          ∙ ap (λ b. (cond b (stepped (Step.Closed Result.Ok 0) s) (opened_of s device (event_of kind detail) r)).service) ey))
+          (sym (ap (λ b. (cond b (cond (eqb kind 5) (stepped (Ok (Step.Closed (Ok tt) 0)) s) (opened_of s device (event_of kind detail) r)) (refused (conditions false) s)).service) ex
+          ∙ ap (λ b. (cond b (stepped (Ok (Step.Closed (Ok tt) 0)) s) (opened_of s device (event_of kind detail) r)).service) ey))
           (stayed s held before (open_event kind device detail r) runs
           (ap (λ b. cond b (cond (eqb kind 5) (policy_of s held) (proceeds (policy_of s held) 0 i)) (policy_of s held)) ex
           ∙ ap (λ b. cond b (policy_of s held) (proceeds (policy_of s held) 0 i)) ey))
@@ -312,8 +312,8 @@ module _ (g : Registration) (number k : ℕ) (kind device detail : ℕ) (r : Rec
           let port : leb device 15 ≡ true = le-leb device 15 (omega (arith, leb-false g.ports device lp, le.ports)) in
           let lt : number < 4294967295 = below number (eqb kind 5) ey nb (last_not_refused (not_registered g.ports g.chargers kind device) (unknown_event kind detail) false (numbers_used kind number) (eqb-true (conditions false) 0 ex)) in
           subst (λ z. Went s held before (open_event kind device detail r) z)
-          (sym (ap (λ b. (cond b (cond (eqb kind 5) (stepped (Step.Closed Result.Ok 0) s) (opened_of s device (event_of kind detail) r)) (refused (conditions false) s)).service) ex
-          ∙ (ap (λ b. (cond b (stepped (Step.Closed Result.Ok 0) s) (opened_of s device (event_of kind detail) r)).service) ey
+          (sym (ap (λ b. (cond b (cond (eqb kind 5) (stepped (Ok (Step.Closed (Ok tt) 0)) s) (opened_of s device (event_of kind detail) r)) (refused (conditions false) s)).service) ex
+          ∙ (ap (λ b. (cond b (stepped (Ok (Step.Closed (Ok tt) 0)) s) (opened_of s device (event_of kind detail) r)).service) ey
           ∙ ap (λ x. (moved g number 0 (t x)).service) same-state)))
           (went g number 0 k (3 + 4 * g.chargers) (t held.state) (Phase.Closed a) m held before (open_event kind device detail r) i le lt
           (opened g held.state device (event_of kind detail) r) (opened_fits g held.state device (event_of kind detail) r)
@@ -333,8 +333,8 @@ module _ (g : Registration) (number k : ℕ) (kind device detail : ℕ) (r : Rec
       i : Interaction
       i = event g device (event_of kind detail) held.state r
 
-      at-machine : (open_of s kind device detail r).service ≡ (cond (eqb (conditions true) 0) (cond (eqb kind 5) (stepped (Step.Closed Result.Ok 0) s) (opened_of s device (event_of kind detail) r)) (refused (conditions true) s)).service
-      at-machine = ap (λ b. (cond (eqb (conditions b) 0) (cond (eqb kind 5) (stepped (Step.Closed Result.Ok 0) s) (opened_of s device (event_of kind detail) r)) (refused (conditions b) s)).service) io
+      at-machine : (open_of s kind device detail r).service ≡ (cond (eqb (conditions true) 0) (cond (eqb kind 5) (stepped (Ok (Step.Closed (Ok tt) 0)) s) (opened_of s device (event_of kind detail) r)) (refused (conditions true) s)).service
+      at-machine = ap (λ b. (cond (eqb (conditions b) 0) (cond (eqb kind 5) (stepped (Ok (Step.Closed (Ok tt) 0)) s) (opened_of s device (event_of kind detail) r)) (refused (conditions b) s)).service) io
 
       at-policy : policy_after (policy_of s held) (open_event kind device detail r) ≡ cond (eqb (conditions true) 0) (cond (eqb kind 5) (policy_of s held) (proceeds (policy_of s held) 0 i)) (policy_of s held)
       at-policy = ap (λ b. cond (eqb (conditions b) 0) (cond (eqb kind 5) (policy_of s held) (proceeds (policy_of s held) 0 i)) (policy_of s held)) (open_is k g p m ∙ io)
@@ -343,7 +343,7 @@ module _ (g : Registration) (number k : ℕ) (kind device detail : ℕ) (r : Rec
       go true ex = absurd (eqb-false 0 0 (not_open (not_registered g.ports g.chargers kind device) (unknown_event kind detail) true (numbers_used kind number) (eqb-true (conditions true) 0 ex)) refl)
       go false ex =
           subst (λ z. Went s held before (open_event kind device detail r) z)
-          (sym (at-machine ∙ ap (λ b. (cond b (cond (eqb kind 5) (stepped (Step.Closed Result.Ok 0) s) (opened_of s device (event_of kind detail) r)) (refused (conditions true) s)).service) ex))
+          (sym (at-machine ∙ ap (λ b. (cond b (cond (eqb kind 5) (stepped (Ok (Step.Closed (Ok tt) 0)) s) (opened_of s device (event_of kind detail) r)) (refused (conditions true) s)).service) ex))
           (stayed s held before (open_event kind device detail r) runs
           (at-policy ∙ ap (λ b. cond b (cond (eqb kind 5) (policy_of s held) (proceeds (policy_of s held) 0 i)) (policy_of s held)) ex))
 

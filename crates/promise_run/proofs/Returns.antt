@@ -1,5 +1,6 @@
 -- What a call returns is what the definition says, whichever it is: turned back by the same number, or the same order or close, since the
 -- machine stands for what is left of the event; and the same packet and picture, since it has what the event closed last has left.
+use Rattle.std.specs.Prelude.{Err, None, Ok, Option, Result, Some}
 use mathlib.Core.Path.{◌≡◌, refl, sym, ap, ◌∙◌, subst}
 use mathlib.Core.Bool.{Bool, true, false, cond}
 use mathlib.Core.List.{List, [], ◌∷◌, ◌++◌}
@@ -7,10 +8,10 @@ use Prim.Native.Nat.{ℕ}
 use lib.Dec.{eqb}
 use borrow.Author.Tests.{eqb-false}
 use Rattle.power_policy_interface.specs.Psu.{answer_byte}
-use Rattle.power_policy_interface.specs.declared.psu.Result.{Result}
+use Rattle.interface_display.specs.declared.AvailableConsumer.{AvailableConsumer}
+use Rattle.power_policy_interface.specs.declared.service.UnconstrainedState.{UnconstrainedState}
 use Rattle.power_policy_interface.specs.declared.service.event.Event.{Event}
 use Rattle.interface_display.specs.Notices.{empty, pushed}
-use Rattle.interface_display.specs.declared.OptionAvailableConsumer.{OptionAvailableConsumer}
 use Rattle.interface_display.specs.declared.notices.Notices as display
 use Rattle.interface_display.specs.declared.packet.EventPacket.{EventPacket}
 use Rattle.abstract_policy.specs.Refusals.{first_refused, open_conditions, not_registered, unknown_event, numbers_used, unknown_answer, packet_conditions, no_answer}
@@ -23,18 +24,14 @@ use Rattle.abstract_policy.specs.Policy.{Call, between, order_at, is_at, policie
 use Rattle.abstract_policy.specs.declared.state.InternalState.{InternalState}
 use Rattle.abstract_policy.specs.declared.state.Records.{Records}
 use Rattle.abstract_policy.specs.declared.state.Registration.{Registration}
-use Rattle.abstract_policy.specs.declared.order.OptionOrder.{OptionOrder}
 use Rattle.abstract_policy.specs.declared.order.Order.{Order}
 use Rattle.abstract_policy.specs.declared.outcome.Step.{Step}
-use Rattle.abstract_policy.specs.declared.outcome.SentPacket.{SentPacket}
-use Rattle.abstract_policy.specs.declared.outcome.SentPicture.{SentPicture}
 use Rattle.machine_state.specs.Memory.{no_notices}
 use Rattle.machine_state.specs.Phase.{order_of, switch_order, connect_order}
-use Rattle.machine_state.specs.declared.memory.DisconnectedNotice.{DisconnectedNotice}
+use Rattle.machine_state.specs.declared.memory.Disconnected.{Disconnected}
 use Rattle.machine_state.specs.declared.memory.Memory.{Memory}
 use Rattle.machine_state.specs.declared.memory.Notices.{Notices}
 use Rattle.machine_state.specs.declared.memory.ProviderNotice.{ProviderNotice}
-use Rattle.machine_state.specs.declared.memory.UnconstrainedNotice.{UnconstrainedNotice}
 use Rattle.machine_state.specs.declared.phase.Phase.{Phase}
 use Rattle.machine_state.specs.declared.phase.Turn.{Turn}
 use Rattle.machine_update.specs.Update.{remember}
@@ -42,7 +39,7 @@ use Rattle.machine_process.specs.Process.{answered_of, process_of}
 use Rattle.machine_service.specs.Refusals.{is_open}
 use Rattle.machine_service.specs.Service.{answer_in, stepped, moved, answer_of, opened_of, open_of, refused}
 use Rattle.machine_service.specs.declared.Service.{Service}
-use Rattle.machine_service.specs.declared.Stepped.{Stepped}
+use Rattle.machine_service.specs.Service.{Stepped}
 use Rattle.machine_service.specs.Send.{push_provider, push_disconnected, push_connected, push_unconstrained, notices_of, send_packet, send_picture}
 use Rattle.machine_follows.specs.Machine.{of_provider, of_disconnected, of_connected, of_unconstrained, held_of, listed, rest, stands_at, stands_for}
 use Rattle.machine_follows.proofs.Follows.{opened, leaving_answered, switching_answered, connecting_answered, providing_answered}
@@ -51,16 +48,16 @@ use Rattle.promise_run.specs.Run.{after_call, services, CallsFit}
 use Rattle.promise_run.specs.Demands.{stand_of, Equal}
 use Rattle.promise_run.proofs.Matches.{Last, last_of, policy_of, open_is, StateAt, Runs, goes}
 
-closed_step : (b : Bool) (x : Stepped) (s : Service) → (cond (eqb (cond b 24 26) 0) x (refused (cond b 24 26) s)).step ≡ Step.Refused (cond b 24 26)
+closed_step : (b : Bool) (x : Stepped) (s : Service) → (cond (eqb (cond b 24 26) 0) x (refused (cond b 24 26) s)).step ≡ Err (cond b 24 26)
 closed_step true x s = refl
 closed_step false x s = refl
 
-open_step : (b : Bool) (x : Stepped) (s : Service) → (cond (eqb (cond b 24 0) 0) x (refused (cond b 24 0) s)).step ≡ cond b (Step.Refused 24) x.step
+open_step : (b : Bool) (x : Stepped) (s : Service) → (cond (eqb (cond b 24 0) 0) x (refused (cond b 24 0) s)).step ≡ cond b (Err 24) x.step
 open_step true x s = refl
 open_step false x s = refl
 
 -- an answer at an open phase
-answer_returns : (g : Registration) (number k : ℕ) (p : Phase) (m : Memory) (o : Order) (a : ℕ) (r : Records) → order_of p ≡ OptionOrder.Some o →
+answer_returns : (g : Registration) (number k : ℕ) (p : Phase) (m : Memory) (o : Order) (a : ℕ) (r : Records) → order_of p ≡ Some o →
     stands_at g p m ≡ ask o (λ x y. rest g p x (held_of m) y close) →
     stands_for g (answered_of g p o m (result_of a) r) ≡ rest g p (result_of a) (held_of m) r close →
     (answer_of (service g number k p m) a r).step ≡ answer_to (stand_of k (stands_at g p m)) a r
@@ -68,10 +65,10 @@ answer_returns g number k p m o a r eo es e =
     let s = service g number k p m in
     let t = answered_of g p o m (result_of a) r in
     rw eo (open_step (no_answer o a) (moved g number k t) s)
-    ∙ (ap (λ z. cond (no_answer o a) (Step.Refused 24) z) (moved_brings g number k t.phase t.memory ∙ ap (brings k) e)
+    ∙ (ap (λ z. cond (no_answer o a) (Err 24) z) (moved_brings g number k t.phase t.memory ∙ ap (brings k) e)
     ∙ ap (λ z. answer_to (stand_of k z) a r) (sym es))
 
-step_of : (x : Bool) (y : Bool) (n : ℕ) (s : Service) (z : Stepped) → (cond x (cond y (stepped (Step.Closed Result.Ok 0) s) z) (refused n s)).step ≡ cond x (cond y (Step.Closed Result.Ok 0) z.step) (Step.Refused n)
+step_of : (x : Bool) (y : Bool) (n : ℕ) (s : Service) (z : Stepped) → (cond x (cond y (stepped (Ok (Step.Closed (Ok tt) 0)) s) z) (refused n s)).step ≡ cond x (cond y (Ok (Step.Closed (Ok tt) 0)) z.step) (Err n)
 step_of true true n s z = refl
 step_of true false n s z = refl
 step_of false true n s z = refl
@@ -81,8 +78,8 @@ module _ (g : Registration) (number k : ℕ) (kind device detail : ℕ) (r : Rec
   abbrev conditions : Bool → ℕ
   conditions waits = first_refused (open_conditions g.ports g.chargers waits number kind device detail)
 
-  abbrev says : Bool → Step → Step
-  says waits z = cond (eqb (conditions waits) 0) (cond (eqb kind 5) (Step.Closed Result.Ok 0) z) (Step.Refused (conditions waits))
+  abbrev says : Bool → Result Step ℕ → Result Step ℕ
+  says waits z = cond (eqb (conditions waits) 0) (cond (eqb kind 5) (Ok (Step.Closed (Ok tt) 0)) z) (Err (conditions waits))
 
   open_returns : (p : Phase) (m : Memory) (held : Last) → (is_open p ≡ false → m.state ≡ held.state) →
       (open_of (service g number k p m) kind device detail r).step ≡ open_to (policy_of (service g number k p m) held) kind device detail r
@@ -98,10 +95,10 @@ module _ (g : Registration) (number k : ℕ) (kind device detail : ℕ) (r : Rec
           ap (λ x. (moved g number 0 (turn x)).step) (same e)
           ∙ (moved_brings g number 0 (turn held.state).phase (turn held.state).memory ∙ ap (brings 0) (opened g held.state device (event_of kind detail) r))
 
-      refused-open : (z w : Step) → says true z ≡ says true w
+      refused-open : (z w : Result Step ℕ) → says true z ≡ says true w
       refused-open z w = tested (not_registered g.ports g.chargers kind device) (unknown_event kind detail) (numbers_used kind number)
         where
-          tested : (a b d : Bool) → (let n : ℕ = cond a 23 (cond b 24 25) in cond (eqb n 0) (cond (eqb kind 5) (Step.Closed Result.Ok 0) z) (Step.Refused n) ≡ cond (eqb n 0) (cond (eqb kind 5) (Step.Closed Result.Ok 0) w) (Step.Refused n))
+          tested : (a b d : Bool) → (let n : ℕ = cond a 23 (cond b 24 25) in cond (eqb n 0) (cond (eqb kind 5) (Ok (Step.Closed (Ok tt) 0)) z) (Err n) ≡ cond (eqb n 0) (cond (eqb kind 5) (Ok (Step.Closed (Ok tt) 0)) w) (Err n))
           tested true b d = refl
           tested false true d = refl
           tested false false d = refl
@@ -120,7 +117,7 @@ closed_last g number k (Phase.Providing p d) m held before c o = absurd (eqb-fal
 
 answers_at : (g : Registration) (number k : ℕ) (p : Phase) (m : Memory) (held : Last) (before : InternalState) (n : ℕ) (r : Records) → Runs (service g number k p m) held before →
     (answer_of (service g number k p m) n r).step ≡ answer_to (stand_of k (stands_at g p m)) n r
-answers_at g number k (Phase.Closed a) m held before n r x = closed_step (unknown_answer OptionOrder.None n) _ (service g number k (Phase.Closed a) m)
+answers_at g number k (Phase.Closed a) m held before n r x = closed_step (unknown_answer None n) _ (service g number k (Phase.Closed a) m)
 answers_at g number k (Phase.Leaving i p f) m held before n r x =
     answer_returns g number k (Phase.Leaving i p f) m (Order.Detach i) n r refl refl (leaving_answered g i p f m x.limits.chargers x.state.fits (result_of n) r)
 answers_at g number k (Phase.Switching l old f new) m held before n r x =
@@ -143,17 +140,17 @@ provider_pushed n ProviderNotice.None = refl
 provider_pushed n (ProviderNotice.Disconnected p) = refl
 provider_pushed n (ProviderNotice.Connected p c) = refl
 
-disconnected_pushed : (n : display.Notices) (d : DisconnectedNotice) → push_disconnected n d ≡ pushed_all n (of_disconnected d)
-disconnected_pushed n DisconnectedNotice.None = refl
-disconnected_pushed n (DisconnectedNotice.Some p f) = refl
+disconnected_pushed : (n : display.Notices) (d : Option Disconnected) → push_disconnected n d ≡ pushed_all n (of_disconnected d)
+disconnected_pushed n None = refl
+disconnected_pushed n (Some d) = refl
 
-connected_pushed : (n : display.Notices) (c : OptionAvailableConsumer) → push_connected n c ≡ pushed_all n (of_connected c)
-connected_pushed n OptionAvailableConsumer.None = refl
-connected_pushed n (OptionAvailableConsumer.Some c) = refl
+connected_pushed : (n : display.Notices) (c : Option AvailableConsumer) → push_connected n c ≡ pushed_all n (of_connected c)
+connected_pushed n None = refl
+connected_pushed n (Some c) = refl
 
-unconstrained_pushed : (n : display.Notices) (u : UnconstrainedNotice) → push_unconstrained n u ≡ pushed_all n (of_unconstrained u)
-unconstrained_pushed n UnconstrainedNotice.None = refl
-unconstrained_pushed n (UnconstrainedNotice.Some u) = refl
+unconstrained_pushed : (n : display.Notices) (u : Option UnconstrainedState) → push_unconstrained n u ≡ pushed_all n (of_unconstrained u)
+unconstrained_pushed n None = refl
+unconstrained_pushed n (Some u) = refl
 
 notices_pushed : (n : Notices) → notices_of n ≡ pushed_all empty (listed n)
 notices_pushed n =
@@ -176,10 +173,10 @@ module _ (g : Registration) (number k : ℕ) where
       ap (λ x. sentOf (record { number = number; answer = answer_byte a; orders = k; notices = x })) (notices_pushed m.notices)
       ∙ ap (λ (x : Last). sentOf (record { number = number; answer = answer_byte x.answer; orders = x.orders; notices = pushed_all empty x.notices })) c.same
     where
-      sentOf : EventPacket → SentPacket
+      sentOf : EventPacket → Result EventPacket ℕ
       sentOf e =
           let n : ℕ = first_refused (packet_conditions false number) in
-          cond (eqb n 0) (SentPacket.Packet e) (SentPacket.Refused n)
+          cond (eqb n 0) (Ok e) (Err n)
   packet_at (Phase.Leaving i p f) m held before c = refl
   packet_at (Phase.Switching l old f new) m held before c = refl
   packet_at (Phase.Connecting s new) m held before c = refl
@@ -188,7 +185,7 @@ module _ (g : Registration) (number k : ℕ) where
   picture_at : (p : Phase) (m : Memory) (held : Last) (before : InternalState) → StateAt g number k p m held before →
       send_picture (service g number k p m) ≡ picture_to (policy_of (service g number k p m) held)
   picture_at (Phase.Closed a) m held before c =
-      ap (λ (x : Last). SentPicture.Picture (record { number = number; display = display_of x.state })) c.same
+      ap (λ (x : Last). Ok (record { number = number; display = display_of x.state })) c.same
   picture_at (Phase.Leaving i p f) m held before c = refl
   picture_at (Phase.Switching l old f new) m held before c = refl
   picture_at (Phase.Connecting s new) m held before c = refl

@@ -1,4 +1,5 @@
 -- What is held and told stays within its ranges: each change of an event takes its figures from the state, the configuration or the records.
+use Rattle.std.specs.Prelude.{Err, None, Ok, Option, Result, Some}
 use mathlib.Core.Path.{◌≡◌, refl, sym, ap, ◌∙◌, subst}
 use mathlib.Core.Bool.{Bool, true, false, cond, ◌&&◌}
 use mathlib.Core.List.{List, [], ◌∷◌, ◌++◌}
@@ -12,15 +13,12 @@ use Rattle.power_policy_interface.specs.Service.{same_unconstrained}
 use Rattle.power_policy_interface.specs.Capability.{max_power_mw, capability_fits}
 use Rattle.power_policy_interface.specs.declared.capability.ConsumerPowerCapability.{ConsumerPowerCapability}
 use Rattle.power_policy_interface.specs.declared.capability.DisconnectFlags.{DisconnectFlags}
-use Rattle.power_policy_interface.specs.declared.capability.OptionConsumerPowerCapability.{OptionConsumerPowerCapability}
-use Rattle.power_policy_interface.specs.declared.capability.OptionProviderPowerCapability.{OptionProviderPowerCapability}
+use Rattle.power_policy_interface.specs.declared.psu.Error.{Error}
 use Rattle.power_policy_interface.specs.declared.capability.ProviderPowerCapability.{ProviderPowerCapability}
-use Rattle.power_policy_interface.specs.declared.psu.Result.{Result}
 use Rattle.power_policy_interface.specs.declared.psu.event.EventData.{EventData}
 use Rattle.power_policy_interface.specs.declared.service.event.Event.{Event}
 use Rattle.interface_display.specs.Providers.{insert_of, remove_of}
 use Rattle.interface_display.specs.declared.AvailableConsumer.{AvailableConsumer}
-use Rattle.interface_display.specs.declared.OptionAvailableConsumer.{OptionAvailableConsumer}
 use Rattle.interface_display.specs.declared.providers.Providers.{Providers}
 use Rattle.interface_display.proofs.Tracked.{Tracks, insert_tracks, remove_tracks}
 use Rattle.power_policy_service.specs.Choice.{Chosen}
@@ -29,7 +27,6 @@ use Rattle.power_policy_service.specs.Provider.{total_of, total_with, power_stat
 use Rattle.power_policy_service.specs.Rows.{psu_at, no_psu}
 use Rattle.power_policy_service.specs.Config.{ConfigFits}
 use Rattle.power_policy_service.specs.declared.config.Config.{Config}
-use Rattle.power_policy_service.specs.declared.config.OptionMilliwatts.{OptionMilliwatts}
 use Rattle.power_policy_service.specs.declared.provider.PowerState.{PowerState}
 use Rattle.power_policy_service.proofs.Choice.{chosen}
 use Rattle.power_policy_service.proofs.Greatest.{not_both, one_offer}
@@ -61,7 +58,7 @@ pub record HeldFits (h : Held) : Type 0 where
 -- wherever an event closes, if the records that come fit
 abbrev pub Sized : Interaction → Type 0
 Sized (done a h) = HeldFits h
-Sized (ask o k) = (a : Result) (r : Records) → RecordsFit r → Sized (k a r)
+Sized (ask o k) = (a : Result (Unit {0}) Error) (r : Records) → RecordsFit r → Sized (k a r)
 
 pub both : (a b : Bool) → a ≡ true → b ≡ true → a && b ≡ true
 both a b p q = rw (p, q)
@@ -94,15 +91,15 @@ sets f z = record { keeps = λ h r k p w q. q _ r (record { state = z h.state p.
 notifies : (e : Event) → notice_fits e ≡ true → Keeps (notify e)
 notifies e z = record { keeps = λ h r k p w q. q _ r (record { state = p.state; notices = fits_last h.notices e p.notices z }) w }
 
-psu_answer : (a : Result) (h : Held) (r : Records) (k : Next) → HeldFits h → Sized (k tt h r) → Sized (ok a h r k)
-psu_answer Result.Ok h r k p q = q
-psu_answer (Result.Err x) h r k p q = p
+psu_answer : (a : Result (Unit {0}) Error) (h : Held) (r : Records) (k : Next) → HeldFits h → Sized (k tt h r) → Sized (ok a h r k)
+psu_answer (Ok tt) h r k p q = q
+psu_answer (Err x) h r k p q = p
 
-charger_answer : (a : Result) (h : Held) (r : Records) (k : Next) → HeldFits h → Sized (k tt h r) → Sized (charger_ok a h r k)
-charger_answer Result.Ok h r k p q = q
-charger_answer (Result.Err x) h r k p q = p
+charger_answer : (a : Result (Unit {0}) Error) (h : Held) (r : Records) (k : Next) → HeldFits h → Sized (k tt h r) → Sized (charger_ok a h r k)
+charger_answer (Ok tt) h r k p q = q
+charger_answer (Err x) h r k p q = p
 
-oks : (a : Result) → Keeps (ok a)
+oks : (a : Result (Unit {0}) Error) → Keeps (ok a)
 oks a = record { keeps = λ h r k p f q. psu_answer a h r k p (q h r p f) }
 
 asks_psu : (o : Order) → Keeps (psu o)
@@ -154,7 +151,7 @@ chargers_left g = loops g.chargers 0 detach_charger detaches
 
 -- the consumer
 
-consumer_set : (c : OptionAvailableConsumer) → consumer_fits c ≡ true → (s : InternalState) → StateFits s → StateFits (with_consumer c s)
+consumer_set : (c : Option AvailableConsumer) → consumer_fits c ≡ true → (s : InternalState) → StateFits s → StateFits (with_consumer c s)
 consumer_set c e s p = record { consumer = e; available = p.available; tracks = p.tracks }
 
 port_fits_lem : (c : AvailableConsumer) → ConsumerFits c → leb c.psu 15 ≡ true
@@ -163,7 +160,7 @@ port_fits_lem c e = and_left (leb c.psu 15) (capability_fits c.consumer_power_ca
 connected : (g : Registration) (new : AvailableConsumer) → ConsumerFits new → Keeps (post_consumer_connected g new)
 unfolding post_consumer_connected
 connected g new e =
-    then (sets (with_consumer (OptionAvailableConsumer.Some new)) (consumer_set (OptionAvailableConsumer.Some new) e))
+    then (sets (with_consumer (Some new)) (consumer_set (Some new) e))
     (waits
     (then (loops g.chargers 0 (attach_charger new) (attaches new))
     (notifies (Event.ConsumerConnected new.psu new.consumer_power_capability) e)))
@@ -189,41 +186,41 @@ gives_way g current new f e =
 disconnects : (g : Registration) (current new : AvailableConsumer) (f : DisconnectFlags) → ConsumerFits current → Keeps (disconnect_current g current new f)
 unfolding disconnect_current
 disconnects g current new f e =
-    then (sets (with_consumer OptionAvailableConsumer.None) (consumer_set OptionAvailableConsumer.None refl)) (gives_way g current new f e)
+    then (sets (with_consumer None) (consumer_set None refl)) (gives_way g current new f e)
 
-news : (g : Registration) (current : OptionAvailableConsumer) (new : AvailableConsumer) (f : DisconnectFlags) → consumer_fits current ≡ true → ConsumerFits new → Keeps (connect_new_consumer g current new f)
+news : (g : Registration) (current : Option AvailableConsumer) (new : AvailableConsumer) (f : DisconnectFlags) → consumer_fits current ≡ true → ConsumerFits new → Keeps (connect_new_consumer g current new f)
 unfolding connect_new_consumer
-news g OptionAvailableConsumer.None new f c e = connects g new e
-news g (OptionAvailableConsumer.Some current) new f c e = unlesses (same_available current new) (then (disconnects g current new f c) (connects g new e))
+news g None new f c e = connects g new e
+news g (Some current) new f c e = unlesses (same_available current new) (then (disconnects g current new f c) (connects g new e))
 
-bests : (g : Registration) (best current : OptionAvailableConsumer) (f : DisconnectFlags) → consumer_fits best ≡ true → consumer_fits current ≡ true → Keeps (connect_best g best current f)
+bests : (g : Registration) (best current : Option AvailableConsumer) (f : DisconnectFlags) → consumer_fits best ≡ true → consumer_fits current ≡ true → Keeps (connect_best g best current f)
 unfolding connect_best
-bests g (OptionAvailableConsumer.Some new) current f b c = news g current new f c b
-bests g OptionAvailableConsumer.None OptionAvailableConsumer.None f b c = sets (with_consumer OptionAvailableConsumer.None) (consumer_set OptionAvailableConsumer.None refl)
-bests g OptionAvailableConsumer.None (OptionAvailableConsumer.Some current) f b c =
+bests g (Some new) current f b c = news g current new f c b
+bests g None None f b c = sets (with_consumer None) (consumer_set None refl)
+bests g None (Some current) f b c =
     then (chargers_left g)
     (then (notifies (Event.ConsumerDisconnected current.psu f) (port_fits_lem current c))
-    (sets (with_consumer OptionAvailableConsumer.None) (consumer_set OptionAvailableConsumer.None refl)))
+    (sets (with_consumer None) (consumer_set None refl)))
 
 -- the choice takes its figures from a record
 
-eligible_fits : (m : OptionMilliwatts) (o : OptionConsumerPowerCapability) (c : ConsumerPowerCapability) → offered m o ≡ OptionConsumerPowerCapability.Some c → OfferFits o → capability_fits c.capability ≡ true
-eligible_fits m OptionConsumerPowerCapability.None c e f = absurd (not_both {o = OptionConsumerPowerCapability.None} {d = c} refl e)
-eligible_fits m (OptionConsumerPowerCapability.Some d) c e f = go (meets m d) refl
+eligible_fits : (m : Option ℕ) (o : Option ConsumerPowerCapability) (c : ConsumerPowerCapability) → offered m o ≡ Some c → OfferFits o → capability_fits c.capability ≡ true
+eligible_fits m None c e f = absurd (not_both {o = None} {d = c} refl e)
+eligible_fits m (Some d) c e f = go (meets m d) refl
   where
     go : (b : Bool) → meets m d ≡ b → capability_fits c.capability ≡ true
     go true x =
-        let y : OptionConsumerPowerCapability.Some d ≡ OptionConsumerPowerCapability.Some c = sym (ap (λ b. cond b (OptionConsumerPowerCapability.Some d) OptionConsumerPowerCapability.None) x) ∙ e in
-        subst (λ (z : ConsumerPowerCapability). capability_fits z.capability ≡ true) (one_offer {o = OptionConsumerPowerCapability.Some d} {c = d} {d = c} refl y) f
+        let y : Some d ≡ Some c = sym (ap (λ b. cond b (Some d) None) x) ∙ e in
+        subst (λ (z : ConsumerPowerCapability). capability_fits z.capability ≡ true) (one_offer {o = Some d} {c = d} {d = c} refl y) f
     go false x =
-        absurd (not_both {o = OptionConsumerPowerCapability.None} {d = c} refl (sym (ap (λ b. cond b (OptionConsumerPowerCapability.Some d) OptionConsumerPowerCapability.None) x) ∙ e))
+        absurd (not_both {o = None} {d = c} refl (sym (ap (λ b. cond b (Some d) None) x) ∙ e))
 
-pub best_fits : (m : OptionMilliwatts) (current : OptionAvailableConsumer) (r : Records) (n : ℕ) → n ≤ 16 → RecordsFit r → consumer_fits (best_of m current r.psus n) ≡ true
+pub best_fits : (m : Option ℕ) (current : Option AvailableConsumer) (r : Records) (n : ℕ) → n ≤ 16 → RecordsFit r → consumer_fits (best_of m current r.psus n) ≡ true
 best_fits m current r n l w = go (best_of m current r.psus n) (chosen m current r.psus n)
   where
-    go : (x : OptionAvailableConsumer) → Chosen m current r.psus n x → consumer_fits x ≡ true
-    go OptionAvailableConsumer.None c = refl
-    go (OptionAvailableConsumer.Some c) b =
+    go : (x : Option AvailableConsumer) → Chosen m current r.psus n x → consumer_fits x ≡ true
+    go None c = refl
+    go (Some c) b =
         let p : c.psu < n = b.offer.registered in
         both (leb c.psu 15) (capability_fits c.consumer_power_capability.capability) (le-leb c.psu 15 (omega (arith, p, l)))
         (eligible_fits m (psu_at r.psus c.psu).consumer_capability c.consumer_power_capability b.offer.offered (w c.psu (omega (arith, p, l))).0)
@@ -283,10 +280,10 @@ module _ (g : Registration) (config : ConfigFits g.config) (ports : g.ports ≤ 
       (λ x z. record { consumer = z.consumer; available = z.available; tracks = insert_tracks s.connected_providers p q.tracks }))
       (notifies (Event.ProviderConnected p c) (both (leb p 15) (capability_fits c.capability) l e)))
 
-  provides : (p : ℕ) (q : OptionProviderPowerCapability) → leb p 15 ≡ true → RequestFits q → Keeps (provide g p q)
+  provides : (p : ℕ) (q : Option ProviderPowerCapability) → leb p 15 ≡ true → RequestFits q → Keeps (provide g p q)
   unfolding provide
-  provides p OptionProviderPowerCapability.None l e = skips
-  provides p (OptionProviderPowerCapability.Some q) l e =
+  provides p None l e = skips
+  provides p (Some q) l e =
       reads
       (λ s r.
       let w = power_state_of g.config (total_with p q r.psus (min 16 g.ports)) in

@@ -1,5 +1,6 @@
 -- A run is a writer on the link: a picture shows what the definition holds at its number, a packet without error leads from there to the next,
 -- and an event has one packet. By induction on the calls; while the number stays, what is held stays.
+use Rattle.std.specs.Prelude.{Err, None, Ok, Option, Result, Some}
 use mathlib.Core.Path.{◌≡◌, refl, sym, ap, ◌∙◌, subst}
 use mathlib.Core.Bool.{Bool, true, false, cond, not, ◌&&◌}
 use mathlib.Core.List.{List, [], ◌∷◌}
@@ -10,12 +11,12 @@ use lib.Dec.{leb, ltb, eqb}
 use borrow.Author.Tests.{eq-eqb, ne_eqb, eqb-true, eqb-false, lt-ltb, le-leb}
 use Rattle.power_policy_interface.specs.Psu.{answer_byte}
 use Rattle.power_policy_interface.specs.declared.psu.Error.{Error}
-use Rattle.power_policy_interface.specs.declared.psu.Result.{Result}
+use Rattle.interface_display.specs.declared.AvailableConsumer.{AvailableConsumer}
+use Rattle.power_policy_interface.specs.declared.service.UnconstrainedState.{UnconstrainedState}
 use Rattle.interface_display.specs.Notices as display
 use Rattle.interface_display.specs.Notices.{applied_all, all_applied}
 use Rattle.interface_display.specs.Providers.{len}
 use Rattle.interface_display.specs.declared.Display.{Display}
-use Rattle.interface_display.specs.declared.OptionAvailableConsumer.{OptionAvailableConsumer}
 use Rattle.interface_display.specs.declared.packet.EventPacket.{EventPacket}
 use Rattle.interface_display.specs.declared.packet.Packet.{Packet}
 use Rattle.interface_display.specs.declared.packet.Picture.{Picture}
@@ -23,14 +24,11 @@ use Rattle.abstract_policy.specs.State.{display_of}
 use Rattle.abstract_policy.specs.Policy.{Call, open_event, give_answer, write_packet, write_picture, Policy, policy_after, held_at, policies}
 use Rattle.abstract_policy.specs.declared.state.InternalState.{InternalState}
 use Rattle.abstract_policy.specs.declared.state.Registration.{Registration}
-use Rattle.abstract_policy.specs.declared.outcome.SentPacket.{SentPacket}
-use Rattle.abstract_policy.specs.declared.outcome.SentPicture.{SentPicture}
 use Rattle.machine_state.specs.Memory.{notices_with}
-use Rattle.machine_state.specs.declared.memory.DisconnectedNotice.{DisconnectedNotice}
+use Rattle.machine_state.specs.declared.memory.Disconnected.{Disconnected}
 use Rattle.machine_state.specs.declared.memory.Memory.{Memory}
 use Rattle.machine_state.specs.declared.memory.Notices.{Notices}
 use Rattle.machine_state.specs.declared.memory.ProviderNotice.{ProviderNotice}
-use Rattle.machine_state.specs.declared.memory.UnconstrainedNotice.{UnconstrainedNotice}
 use Rattle.machine_state.specs.declared.phase.Phase.{Phase}
 use Rattle.machine_service.specs.Refusals.{is_open}
 use Rattle.machine_service.specs.declared.Service.{Service}
@@ -45,32 +43,32 @@ use Rattle.promise_run.proofs.Matches.{Last, policy_of, Closed, StateAt, Runs, M
 
 -- the notices of a packet are those of the event, in order
 
-listed_with : (p : ProviderNotice) (d : DisconnectedNotice) (c : OptionAvailableConsumer) (u : UnconstrainedNotice) →
+listed_with : (p : ProviderNotice) (d : Option Disconnected) (c : Option AvailableConsumer) (u : Option UnconstrainedState) →
     display.listed (notices_of (notices_with p d c u)) ≡ listed (notices_with p d c u)
-listed_with ProviderNotice.None DisconnectedNotice.None OptionAvailableConsumer.None UnconstrainedNotice.None = refl
-listed_with ProviderNotice.None DisconnectedNotice.None OptionAvailableConsumer.None (UnconstrainedNotice.Some u) = refl
-listed_with ProviderNotice.None DisconnectedNotice.None (OptionAvailableConsumer.Some c) UnconstrainedNotice.None = refl
-listed_with ProviderNotice.None DisconnectedNotice.None (OptionAvailableConsumer.Some c) (UnconstrainedNotice.Some u) = refl
-listed_with ProviderNotice.None (DisconnectedNotice.Some x y) OptionAvailableConsumer.None UnconstrainedNotice.None = refl
-listed_with ProviderNotice.None (DisconnectedNotice.Some x y) OptionAvailableConsumer.None (UnconstrainedNotice.Some u) = refl
-listed_with ProviderNotice.None (DisconnectedNotice.Some x y) (OptionAvailableConsumer.Some c) UnconstrainedNotice.None = refl
-listed_with ProviderNotice.None (DisconnectedNotice.Some x y) (OptionAvailableConsumer.Some c) (UnconstrainedNotice.Some u) = refl
-listed_with (ProviderNotice.Disconnected a) DisconnectedNotice.None OptionAvailableConsumer.None UnconstrainedNotice.None = refl
-listed_with (ProviderNotice.Disconnected a) DisconnectedNotice.None OptionAvailableConsumer.None (UnconstrainedNotice.Some u) = refl
-listed_with (ProviderNotice.Disconnected a) DisconnectedNotice.None (OptionAvailableConsumer.Some c) UnconstrainedNotice.None = refl
-listed_with (ProviderNotice.Disconnected a) DisconnectedNotice.None (OptionAvailableConsumer.Some c) (UnconstrainedNotice.Some u) = refl
-listed_with (ProviderNotice.Disconnected a) (DisconnectedNotice.Some x y) OptionAvailableConsumer.None UnconstrainedNotice.None = refl
-listed_with (ProviderNotice.Disconnected a) (DisconnectedNotice.Some x y) OptionAvailableConsumer.None (UnconstrainedNotice.Some u) = refl
-listed_with (ProviderNotice.Disconnected a) (DisconnectedNotice.Some x y) (OptionAvailableConsumer.Some c) UnconstrainedNotice.None = refl
-listed_with (ProviderNotice.Disconnected a) (DisconnectedNotice.Some x y) (OptionAvailableConsumer.Some c) (UnconstrainedNotice.Some u) = refl
-listed_with (ProviderNotice.Connected a b) DisconnectedNotice.None OptionAvailableConsumer.None UnconstrainedNotice.None = refl
-listed_with (ProviderNotice.Connected a b) DisconnectedNotice.None OptionAvailableConsumer.None (UnconstrainedNotice.Some u) = refl
-listed_with (ProviderNotice.Connected a b) DisconnectedNotice.None (OptionAvailableConsumer.Some c) UnconstrainedNotice.None = refl
-listed_with (ProviderNotice.Connected a b) DisconnectedNotice.None (OptionAvailableConsumer.Some c) (UnconstrainedNotice.Some u) = refl
-listed_with (ProviderNotice.Connected a b) (DisconnectedNotice.Some x y) OptionAvailableConsumer.None UnconstrainedNotice.None = refl
-listed_with (ProviderNotice.Connected a b) (DisconnectedNotice.Some x y) OptionAvailableConsumer.None (UnconstrainedNotice.Some u) = refl
-listed_with (ProviderNotice.Connected a b) (DisconnectedNotice.Some x y) (OptionAvailableConsumer.Some c) UnconstrainedNotice.None = refl
-listed_with (ProviderNotice.Connected a b) (DisconnectedNotice.Some x y) (OptionAvailableConsumer.Some c) (UnconstrainedNotice.Some u) = refl
+listed_with ProviderNotice.None None None None = refl
+listed_with ProviderNotice.None None None (Some u) = refl
+listed_with ProviderNotice.None None (Some c) None = refl
+listed_with ProviderNotice.None None (Some c) (Some u) = refl
+listed_with ProviderNotice.None (Some x) None None = refl
+listed_with ProviderNotice.None (Some x) None (Some u) = refl
+listed_with ProviderNotice.None (Some x) (Some c) None = refl
+listed_with ProviderNotice.None (Some x) (Some c) (Some u) = refl
+listed_with (ProviderNotice.Disconnected a) None None None = refl
+listed_with (ProviderNotice.Disconnected a) None None (Some u) = refl
+listed_with (ProviderNotice.Disconnected a) None (Some c) None = refl
+listed_with (ProviderNotice.Disconnected a) None (Some c) (Some u) = refl
+listed_with (ProviderNotice.Disconnected a) (Some x) None None = refl
+listed_with (ProviderNotice.Disconnected a) (Some x) None (Some u) = refl
+listed_with (ProviderNotice.Disconnected a) (Some x) (Some c) None = refl
+listed_with (ProviderNotice.Disconnected a) (Some x) (Some c) (Some u) = refl
+listed_with (ProviderNotice.Connected a b) None None None = refl
+listed_with (ProviderNotice.Connected a b) None None (Some u) = refl
+listed_with (ProviderNotice.Connected a b) None (Some c) None = refl
+listed_with (ProviderNotice.Connected a b) None (Some c) (Some u) = refl
+listed_with (ProviderNotice.Connected a b) (Some x) None None = refl
+listed_with (ProviderNotice.Connected a b) (Some x) None (Some u) = refl
+listed_with (ProviderNotice.Connected a b) (Some x) (Some c) None = refl
+listed_with (ProviderNotice.Connected a b) (Some x) (Some c) (Some u) = refl
 
 pub listed_same : (n : Notices) → display.listed (notices_of n) ≡ listed n
 listed_same n = listed_with n.provider n.disconnected n.connected n.unconstrained
@@ -127,24 +125,24 @@ module _ (H : ℕ → Display) where
   Tells (Packet.Picture v) = v.display ≡ H v.number
   Tells (Packet.Event e) = (n : ℕ) → e.number ≡ suc n → e.answer ≡ 0 → all_applied e.notices (H n) ≡ H (suc n)
 
-  done_ok : (a : Result) → answer_byte a ≡ 0 → a ≡ Result.Ok
-  done_ok Result.Ok e = refl
-  done_ok (Result.Err Error.InvalidDevice) e = absurd (omega (arith, e))
-  done_ok (Result.Err Error.CannotProvide) e = absurd (omega (arith, e))
-  done_ok (Result.Err Error.CannotConsume) e = absurd (omega (arith, e))
-  done_ok (Result.Err (Error.InvalidState x)) e = absurd (omega (arith, e))
-  done_ok (Result.Err Error.InvalidResponse) e = absurd (omega (arith, e))
-  done_ok (Result.Err Error.Busy) e = absurd (omega (arith, e))
-  done_ok (Result.Err Error.Timeout) e = absurd (omega (arith, e))
-  done_ok (Result.Err Error.Bus) e = absurd (omega (arith, e))
-  done_ok (Result.Err Error.Charger) e = absurd (omega (arith, e))
-  done_ok (Result.Err Error.Failed) e = absurd (omega (arith, e))
+  done_ok : (a : Result (Unit {0}) Error) → answer_byte a ≡ 0 → a ≡ Ok tt
+  done_ok (Ok tt) e = refl
+  done_ok (Err Error.InvalidDevice) e = absurd (omega (arith, e))
+  done_ok (Err Error.CannotProvide) e = absurd (omega (arith, e))
+  done_ok (Err Error.CannotConsume) e = absurd (omega (arith, e))
+  done_ok (Err (Error.InvalidState x)) e = absurd (omega (arith, e))
+  done_ok (Err Error.InvalidResponse) e = absurd (omega (arith, e))
+  done_ok (Err Error.Busy) e = absurd (omega (arith, e))
+  done_ok (Err Error.Timeout) e = absurd (omega (arith, e))
+  done_ok (Err Error.Bus) e = absurd (omega (arith, e))
+  done_ok (Err Error.Charger) e = absurd (omega (arith, e))
+  done_ok (Err Error.Failed) e = absurd (omega (arith, e))
 
-  picture_tells : (g : Registration) (number k : ℕ) (a : Result) (m : Memory) (held : Last) (before : InternalState) → Closed k a m held before → H number ≡ display_of held.state →
+  picture_tells : (g : Registration) (number k : ℕ) (a : Result (Unit {0}) Error) (m : Memory) (held : Last) (before : InternalState) → Closed k a m held before → H number ≡ display_of held.state →
       Tells (Packet.Picture (picture_of (service g number k (Phase.Closed a) m)))
   picture_tells g number k a m held before c h = ap (λ (x : Last). display_of x.state) c.same ∙ sym h
 
-  packet_tells : (g : Registration) (number k : ℕ) (a : Result) (m : Memory) (held : Last) (before : InternalState) → Closed k a m held before → H number ≡ display_of held.state →
+  packet_tells : (g : Registration) (number k : ℕ) (a : Result (Unit {0}) Error) (m : Memory) (held : Last) (before : InternalState) → Closed k a m held before → H number ≡ display_of held.state →
       Before (service g number k (Phase.Closed a) m) before → Tells (Packet.Event (packet_of (service g number k (Phase.Closed a) m)))
   packet_tells g number k a m held before c h b n e z =
       ap (λ l. applied_all l (H n)) (listed_same m.notices)
@@ -153,29 +151,29 @@ module _ (H : ℕ → Display) where
 
   -- a call that writes is made between events
 
-  abbrev IsSent : EventPacket → SentPacket → Type 0
-  IsSent e (SentPacket.Packet f) = e ≡ f
-  IsSent e (SentPacket.Refused n) = ⊥
+  abbrev IsSent : EventPacket → Result EventPacket ℕ → Type 0
+  IsSent e (Ok f) = e ≡ f
+  IsSent e (Err n) = ⊥
 
-  abbrev IsShown : Picture → SentPicture → Type 0
-  IsShown v (SentPicture.Picture w) = v ≡ w
-  IsShown v (SentPicture.Refused n) = ⊥
+  abbrev IsShown : Picture → Result Picture ℕ → Type 0
+  IsShown v (Ok w) = v ≡ w
+  IsShown v (Err n) = ⊥
 
-  sent : (s : Service) (e : EventPacket) → send_packet s ≡ SentPacket.Packet e → (is_open s.phase ≡ false) × (e ≡ packet_of s) × (eqb s.number 0 ≡ false)
+  sent : (s : Service) (e : EventPacket) → send_packet s ≡ Ok e → (is_open s.phase ≡ false) × (e ≡ packet_of s) × (eqb s.number 0 ≡ false)
   sent s e q = go (is_open s.phase) refl (eqb s.number 0) refl (subst (IsSent e) (sym q) refl)
     where
       go : (x : Bool) → is_open s.phase ≡ x → (y : Bool) → eqb s.number 0 ≡ y →
-          IsSent e (cond (eqb (cond x 25 (cond y 27 0)) 0) (SentPacket.Packet (packet_of s)) (SentPacket.Refused (cond x 25 (cond y 27 0)))) →
+          IsSent e (cond (eqb (cond x 25 (cond y 27 0)) 0) (Ok (packet_of s)) (Err (cond x 25 (cond y 27 0)))) →
           (is_open s.phase ≡ false) × (e ≡ packet_of s) × (eqb s.number 0 ≡ false)
       go true ex true ey z = absurd z
       go true ex false ey z = absurd z
       go false ex true ey z = absurd z
       go false ex false ey z = (ex, z, ey)
 
-  shown : (s : Service) (v : Picture) → send_picture s ≡ SentPicture.Picture v → (is_open s.phase ≡ false) × (v ≡ picture_of s)
+  shown : (s : Service) (v : Picture) → send_picture s ≡ Ok v → (is_open s.phase ≡ false) × (v ≡ picture_of s)
   shown s v q = go (is_open s.phase) refl (subst (IsShown v) (sym q) refl)
     where
-      go : (x : Bool) → is_open s.phase ≡ x → IsShown v (cond (eqb (cond x 25 0) 0) (SentPicture.Picture (picture_of s)) (SentPicture.Refused (cond x 25 0))) →
+      go : (x : Bool) → is_open s.phase ≡ x → IsShown v (cond (eqb (cond x 25 0) 0) (Ok (picture_of s)) (Err (cond x 25 0))) →
           (is_open s.phase ≡ false) × (v ≡ picture_of s)
       go true ex z = absurd z
       go false ex z = (ex, z)
@@ -285,50 +283,50 @@ module _ (K : ℕ → EventPacket) where
 
 -- each packet and picture has its fields within what is laid out (PKT)
 
-padded_with : (p : ProviderNotice) (d : DisconnectedNotice) (c : OptionAvailableConsumer) (u : UnconstrainedNotice) →
+padded_with : (p : ProviderNotice) (d : Option Disconnected) (c : Option AvailableConsumer) (u : Option UnconstrainedState) →
     display.padded (notices_of (notices_with p d c u)) ≡ true
-padded_with ProviderNotice.None DisconnectedNotice.None OptionAvailableConsumer.None UnconstrainedNotice.None = refl
-padded_with ProviderNotice.None DisconnectedNotice.None OptionAvailableConsumer.None (UnconstrainedNotice.Some u) = refl
-padded_with ProviderNotice.None DisconnectedNotice.None (OptionAvailableConsumer.Some c) UnconstrainedNotice.None = refl
-padded_with ProviderNotice.None DisconnectedNotice.None (OptionAvailableConsumer.Some c) (UnconstrainedNotice.Some u) = refl
-padded_with ProviderNotice.None (DisconnectedNotice.Some x y) OptionAvailableConsumer.None UnconstrainedNotice.None = refl
-padded_with ProviderNotice.None (DisconnectedNotice.Some x y) OptionAvailableConsumer.None (UnconstrainedNotice.Some u) = refl
-padded_with ProviderNotice.None (DisconnectedNotice.Some x y) (OptionAvailableConsumer.Some c) UnconstrainedNotice.None = refl
-padded_with ProviderNotice.None (DisconnectedNotice.Some x y) (OptionAvailableConsumer.Some c) (UnconstrainedNotice.Some u) = refl
-padded_with (ProviderNotice.Disconnected a) DisconnectedNotice.None OptionAvailableConsumer.None UnconstrainedNotice.None = refl
-padded_with (ProviderNotice.Disconnected a) DisconnectedNotice.None OptionAvailableConsumer.None (UnconstrainedNotice.Some u) = refl
-padded_with (ProviderNotice.Disconnected a) DisconnectedNotice.None (OptionAvailableConsumer.Some c) UnconstrainedNotice.None = refl
-padded_with (ProviderNotice.Disconnected a) DisconnectedNotice.None (OptionAvailableConsumer.Some c) (UnconstrainedNotice.Some u) = refl
-padded_with (ProviderNotice.Disconnected a) (DisconnectedNotice.Some x y) OptionAvailableConsumer.None UnconstrainedNotice.None = refl
-padded_with (ProviderNotice.Disconnected a) (DisconnectedNotice.Some x y) OptionAvailableConsumer.None (UnconstrainedNotice.Some u) = refl
-padded_with (ProviderNotice.Disconnected a) (DisconnectedNotice.Some x y) (OptionAvailableConsumer.Some c) UnconstrainedNotice.None = refl
-padded_with (ProviderNotice.Disconnected a) (DisconnectedNotice.Some x y) (OptionAvailableConsumer.Some c) (UnconstrainedNotice.Some u) = refl
-padded_with (ProviderNotice.Connected a b) DisconnectedNotice.None OptionAvailableConsumer.None UnconstrainedNotice.None = refl
-padded_with (ProviderNotice.Connected a b) DisconnectedNotice.None OptionAvailableConsumer.None (UnconstrainedNotice.Some u) = refl
-padded_with (ProviderNotice.Connected a b) DisconnectedNotice.None (OptionAvailableConsumer.Some c) UnconstrainedNotice.None = refl
-padded_with (ProviderNotice.Connected a b) DisconnectedNotice.None (OptionAvailableConsumer.Some c) (UnconstrainedNotice.Some u) = refl
-padded_with (ProviderNotice.Connected a b) (DisconnectedNotice.Some x y) OptionAvailableConsumer.None UnconstrainedNotice.None = refl
-padded_with (ProviderNotice.Connected a b) (DisconnectedNotice.Some x y) OptionAvailableConsumer.None (UnconstrainedNotice.Some u) = refl
-padded_with (ProviderNotice.Connected a b) (DisconnectedNotice.Some x y) (OptionAvailableConsumer.Some c) UnconstrainedNotice.None = refl
-padded_with (ProviderNotice.Connected a b) (DisconnectedNotice.Some x y) (OptionAvailableConsumer.Some c) (UnconstrainedNotice.Some u) = refl
+padded_with ProviderNotice.None None None None = refl
+padded_with ProviderNotice.None None None (Some u) = refl
+padded_with ProviderNotice.None None (Some c) None = refl
+padded_with ProviderNotice.None None (Some c) (Some u) = refl
+padded_with ProviderNotice.None (Some x) None None = refl
+padded_with ProviderNotice.None (Some x) None (Some u) = refl
+padded_with ProviderNotice.None (Some x) (Some c) None = refl
+padded_with ProviderNotice.None (Some x) (Some c) (Some u) = refl
+padded_with (ProviderNotice.Disconnected a) None None None = refl
+padded_with (ProviderNotice.Disconnected a) None None (Some u) = refl
+padded_with (ProviderNotice.Disconnected a) None (Some c) None = refl
+padded_with (ProviderNotice.Disconnected a) None (Some c) (Some u) = refl
+padded_with (ProviderNotice.Disconnected a) (Some x) None None = refl
+padded_with (ProviderNotice.Disconnected a) (Some x) None (Some u) = refl
+padded_with (ProviderNotice.Disconnected a) (Some x) (Some c) None = refl
+padded_with (ProviderNotice.Disconnected a) (Some x) (Some c) (Some u) = refl
+padded_with (ProviderNotice.Connected a b) None None None = refl
+padded_with (ProviderNotice.Connected a b) None None (Some u) = refl
+padded_with (ProviderNotice.Connected a b) None (Some c) None = refl
+padded_with (ProviderNotice.Connected a b) None (Some c) (Some u) = refl
+padded_with (ProviderNotice.Connected a b) (Some x) None None = refl
+padded_with (ProviderNotice.Connected a b) (Some x) None (Some u) = refl
+padded_with (ProviderNotice.Connected a b) (Some x) (Some c) None = refl
+padded_with (ProviderNotice.Connected a b) (Some x) (Some c) (Some u) = refl
 
 padded_all : (n : Notices) → display.padded (notices_of n) ≡ true
 padded_all n = padded_with n.provider n.disconnected n.connected n.unconstrained
 
-answer_le : (a : Result) → leb (answer_byte a) 10 ≡ true
-answer_le Result.Ok = refl
-answer_le (Result.Err Error.InvalidDevice) = refl
-answer_le (Result.Err Error.CannotProvide) = refl
-answer_le (Result.Err Error.CannotConsume) = refl
-answer_le (Result.Err (Error.InvalidState x)) = refl
-answer_le (Result.Err Error.InvalidResponse) = refl
-answer_le (Result.Err Error.Busy) = refl
-answer_le (Result.Err Error.Timeout) = refl
-answer_le (Result.Err Error.Bus) = refl
-answer_le (Result.Err Error.Charger) = refl
-answer_le (Result.Err Error.Failed) = refl
+answer_le : (a : Result (Unit {0}) Error) → leb (answer_byte a) 10 ≡ true
+answer_le (Ok tt) = refl
+answer_le (Err Error.InvalidDevice) = refl
+answer_le (Err Error.CannotProvide) = refl
+answer_le (Err Error.CannotConsume) = refl
+answer_le (Err (Error.InvalidState x)) = refl
+answer_le (Err Error.InvalidResponse) = refl
+answer_le (Err Error.Busy) = refl
+answer_le (Err Error.Timeout) = refl
+answer_le (Err Error.Bus) = refl
+answer_le (Err Error.Charger) = refl
+answer_le (Err Error.Failed) = refl
 
-packet_fits : (g : Registration) (number k : ℕ) (a : Result) (m : Memory) (held : Last) (before : InternalState) → Closed k a m held before → number ≤ 4294967295 → eqb number 0 ≡ false →
+packet_fits : (g : Registration) (number k : ℕ) (a : Result (Unit {0}) Error) (m : Memory) (held : Last) (before : InternalState) → Closed k a m held before → number ≤ 4294967295 → eqb number 0 ≡ false →
     event_fits (packet_of (service g number k (Phase.Closed a) m)) ≡ true
 unfolding event_fits
 packet_fits g number k a m held before c nb nz =
@@ -339,7 +337,7 @@ packet_fits g number k a m held before c nb nz =
     (both (leb number 4294967295) _ (le-leb number 4294967295 nb)
     (both (leb (answer_byte a) 10) _ (answer_le a) (both (leb k 35) _ (le-leb k 35 c.few) n)))
 
-picture_fits_lem : (g : Registration) (number k : ℕ) (a : Result) (m : Memory) (held : Last) (before : InternalState) → Closed k a m held before → number ≤ 4294967295 →
+picture_fits_lem : (g : Registration) (number k : ℕ) (a : Result (Unit {0}) Error) (m : Memory) (held : Last) (before : InternalState) → Closed k a m held before → number ≤ 4294967295 →
     picture_fits (picture_of (service g number k (Phase.Closed a) m)) ≡ true
 unfolding picture_fits
 picture_fits_lem g number k a m held before c nb =

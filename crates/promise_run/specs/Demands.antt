@@ -1,8 +1,8 @@
 -- The demands over whole runs. 1 and 2 are of wherever a list of calls leads, refused calls included; 3 is of what the calls write. They hold
 -- of every list of calls after a start (`after_start` in proofs/Linked.antt).
-use Rattle.std.specs.Prelude.{ℕ, suc, ◌+◌, ◌*◌, ◌≤◌, List, ◌≡◌, length}
+use Rattle.std.specs.Prelude.{ℕ, suc, ◌+◌, ◌*◌, ◌≤◌, List, ◌≡◌, length, Result}
 use Rattle.power_policy_interface.specs.Psu.{answer_byte}
-use Rattle.power_policy_interface.specs.declared.psu.Result.{Result}
+use Rattle.power_policy_interface.specs.declared.psu.Error.{Error}
 use Rattle.interface_display.specs.Notices.{listed}
 use Rattle.interface_display.specs.declared.packet.Packet.{Packet}
 use Rattle.abstract_policy.specs.Action.{Held, Interaction, done, ask}
@@ -25,7 +25,7 @@ use Rattle.promise_run.specs.Run.{HasSent, services, CallsFit}
 -- DEM-1a: each event closes after at most 3 + 4 × chargers orders
 
 -- what an event that has closed leaves: its packet, with the definition's answer, notices and number of orders, and what is held
-pub record Packs (s : Service) (a : Result) (h : Held) (n given : ℕ) : Type 0 where
+pub record Packs (s : Service) (a : Result (Unit {0}) Error) (h : Held) (n given : ℕ) : Type 0 where
   pub number : (packet_of s).number ≡ n
   pub answer : (packet_of s).answer ≡ answer_byte a
   pub orders : (packet_of s).orders ≡ given
@@ -46,7 +46,7 @@ pub record Bounded (s : Service) : Type 0 where
       (kind device detail : ℕ) (r : Records) (l : Answers) → Opens s kind device detail →
       (service_after (open_of s kind device detail r).service l).orders ≤ 3 + 4 * s.registration.chargers
   pub packs :
-      (kind device detail : ℕ) (r : Records) (l : Answers) (a : Result) (h : Held) → Opens s kind device detail →
+      (kind device detail : ℕ) (r : Records) (l : Answers) (a : Result (Unit {0}) Error) (h : Held) → Opens s kind device detail →
       fed_by (event_at s kind device detail r) l ≡ done a h →
       Packs (service_after (open_of s kind device detail r).service l) a h (suc s.number) (length (orders_by (event_at s kind device detail r) l))
 

@@ -1,11 +1,9 @@
 -- A run of the service: a start and a list of calls, refused ones included, and what it writes.
-use Rattle.std.specs.Prelude.{List, [], ◌∷◌, ◌⊎◌, ◌≡◌}
+use Rattle.std.specs.Prelude.{List, [], ◌∷◌, ◌⊎◌, ◌≡◌, Ok}
 use Rattle.interface_display.specs.declared.packet.EventPacket.{EventPacket}
 use Rattle.interface_display.specs.declared.packet.Packet.{Packet}
 use Rattle.interface_display.specs.declared.packet.Picture.{Picture}
 use Rattle.abstract_policy.specs.Policy.{Call, open_event, give_answer, write_packet, write_picture}
-use Rattle.abstract_policy.specs.declared.outcome.SentPacket.{SentPacket}
-use Rattle.abstract_policy.specs.declared.outcome.SentPicture.{SentPicture}
 use Rattle.machine_service.specs.Service.{open_of, answer_of}
 use Rattle.machine_service.specs.declared.Service.{Service}
 use Rattle.machine_service.specs.Send.{send_packet, send_picture}
@@ -23,12 +21,12 @@ machine_call (open_event kind device detail r) = record { after = λ s. (open_of
 machine_call (give_answer a r) = record { after = λ s. (answer_of s a r).service; sends = λ s p. ⊥; fits = RecordsFit r }
 machine_call write_packet = record {
   after = λ s. s;
-  sends = λ s p. (e : EventPacket) × (send_packet s ≡ SentPacket.Packet e) × (p ≡ Packet.Event e);
+  sends = λ s p. (e : EventPacket) × (send_packet s ≡ Ok e) × (p ≡ Packet.Event e);
   fits = Unit {0};
 }
 machine_call write_picture = record {
   after = λ s. s;
-  sends = λ s p. (v : Picture) × (send_picture s ≡ SentPicture.Picture v) × (p ≡ Packet.Picture v);
+  sends = λ s p. (v : Picture) × (send_picture s ≡ Ok v) × (p ≡ Packet.Picture v);
   fits = Unit {0};
 }
 

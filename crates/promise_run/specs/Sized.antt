@@ -1,9 +1,9 @@
 -- What the types of records and of a start's figures can hold: the demands are of calls with such records, and a start accepts no other configuration.
-use Rattle.std.specs.Prelude.{ℕ, ◌<◌, ◌≤◌, true, ◌≡◌}
+use Rattle.std.specs.Prelude.{ℕ, ◌<◌, ◌≤◌, true, ◌≡◌, None, Option, Some}
 use Rattle.power_policy_interface.specs.Limits.{max_ports, max_chargers}
 use Rattle.power_policy_interface.specs.Capability.{capability_fits}
-use Rattle.power_policy_interface.specs.declared.capability.OptionConsumerPowerCapability.{OptionConsumerPowerCapability}
-use Rattle.power_policy_interface.specs.declared.capability.OptionProviderPowerCapability.{OptionProviderPowerCapability}
+use Rattle.power_policy_interface.specs.declared.capability.ConsumerPowerCapability.{ConsumerPowerCapability}
+use Rattle.power_policy_interface.specs.declared.capability.ProviderPowerCapability.{ProviderPowerCapability}
 use Rattle.power_policy_interface.specs.declared.psu.State.{State}
 use Rattle.power_policy_service.specs.Rows.{psu_at}
 use Rattle.power_policy_service.specs.Config.{ConfigFits}
@@ -13,13 +13,13 @@ use Rattle.machine_service.specs.Service.{fresh_service}
 use Rattle.machine_service.specs.declared.Service.{Service}
 
 -- 16 bits for mV and mA
-abbrev pub OfferFits : OptionConsumerPowerCapability → Type 0
-OfferFits OptionConsumerPowerCapability.None = Unit {0}
-OfferFits (OptionConsumerPowerCapability.Some c) = capability_fits c.capability ≡ true
+abbrev pub OfferFits : Option ConsumerPowerCapability → Type 0
+OfferFits None = Unit {0}
+OfferFits (Some c) = capability_fits c.capability ≡ true
 
-abbrev pub RequestFits : OptionProviderPowerCapability → Type 0
-RequestFits OptionProviderPowerCapability.None = Unit {0}
-RequestFits (OptionProviderPowerCapability.Some c) = capability_fits c.capability ≡ true
+abbrev pub RequestFits : Option ProviderPowerCapability → Type 0
+RequestFits None = Unit {0}
+RequestFits (Some c) = capability_fits c.capability ≡ true
 
 abbrev pub PsuFits : State → Type 0
 PsuFits s = OfferFits s.consumer_capability × RequestFits s.requested_provider_capability

@@ -8,20 +8,22 @@ ghost use Rattle.std.specs.Prelude.{◌≤◌, length, IfOk};
 use abstract_policy::order::Order;
 use abstract_policy::outcome::Step;
 use abstract_policy::state::{InternalState, Records, Registration};
+use interface_display::AvailableConsumer;
 use interface_display::providers::Providers;
-use interface_display::{AvailableConsumer, OptionAvailableConsumer};
 use interface_records::group::Group;
-use machine_service::{Service, Started, Stepped, start};
-use machine_state::memory::{
-    DisconnectedNotice, Memory, Notices, ProviderNotice, UnconstrainedNotice,
-};
-use power_policy_interface::psu;
-use power_policy_service::config::{Config, OptionConfig};
+use machine_service::send::notices_of;
+use machine_service::{Service, Stepped, start};
+use machine_state::memory::Notices;
+use power_policy_interface::limits::{MAX_CHARGERS, MAX_PORTS};
+use power_policy_interface::refusal::Refusal;
+use power_policy_interface::service::event::Event;
+use power_policy_interface::{charger, psu};
+use power_policy_service::config::Config;
 use power_policy_service::provider::PowerState;
 use std::io::{self, Read};
 
 // What was compared.
-#[derive(Clone, Copy)]
+#[derive(Clone, Copy, Default)]
 struct Count {
     events: u64,
     vectors: u64,
@@ -29,15 +31,22 @@ struct Count {
     first: u64,
 }
 
-// Two bytes, or the end: a call's letter and the byte after it, or an event's device and detail.
-#[derive(Clone, Copy)]
-struct Two {
-    end: bool,
-    a: u8,
-    b: u8,
+impl Count {
+    // One call more, by its letter, and whether what it led to agrees. A start is no outcome.
+    fn add(&mut self, letter: u8, agrees: bool) {
+        self.events = self.events.saturating_add(u64::from(letter == b'O'));
+        self.vectors = self.vectors.saturating_add(u64::from(letter != b'S'));
+        if !agrees {
+            if self.differ == 0 {
+                self.first = self.vectors;
+            }
+            self.differ = self.differ.saturating_add(1);
+        }
+    }
 }
 
 // Reads until the buffer is full or the input has ended, and returns how many bytes were read.
+// A `while`, since a read may give fewer bytes than asked for, and `read_exact` does not say how many it read.
 fn read_full<R: Read>(input: &mut R, v: &mut [u8]) -> io::Result<usize>
     ensures { IfOk result (λ n. n ≤ length v.new) }
 {
@@ -52,369 +61,230 @@ fn read_full<R: Read>(input: &mut R, v: &mut [u8]) -> io::Result<usize>
     Ok(done)
 }
 
-fn read_two<R: Read>(input: &mut R) -> io::Result<Two> {
+// A call's letter and the byte after it, none at the end.
+fn read_head<R: Read>(input: &mut R) -> io::Result<Option<[u8; 2]>> {
     let mut bytes = [0u8; 2];
     let got = read_full(input, &mut bytes)?;
-    Ok(Two {
-        end: got == 0,
-        a: at(&bytes, 0),
-        b: at(&bytes, 1),
-    })
+    Ok((got != 0).then_some(bytes))
 }
 
-// A call that is turned back, which none of the stream is.
-fn refused(service: Service) -> Stepped {
-    Stepped {
-        step: Step::Refused(22),
-        service,
-    }
+// As many bytes as the array has, none where the input ends before.
+fn read_array<R: Read, const N: usize>(input: &mut R) -> io::Result<Option<[u8; N]>> {
+    let mut bytes = [0u8; N];
+    let got = read_full(input, &mut bytes)?;
+    Ok((got == N).then_some(bytes))
 }
 
-fn begun(service: Service) -> Stepped {
-    Stepped {
-        step: Step::Closed(psu::Result::Ok, 0),
-        service,
-    }
-}
-
-// A call by its letter, with the byte after it.
-fn step<R: Read>(input: &mut R, service: Service, letter: u8, a: u8) -> io::Result<Stepped> {
+// What a call leads to, by its letter, with the byte after it. None of the stream is turned back.
+fn step<R: Read>(
+    input: &mut R,
+    service: Service,
+    letter: u8,
+    a: u8,
+) -> io::Result<Result<Stepped, Refusal>> {
     match letter {
-        83 => start_step(input, service, a),
-        79 => open_step(input, service, a),
-        65 => answer_step(input, service, a),
-        _ => Ok(refused(service)),
+        b'S' => start_step(input, a),
+        b'O' => open_step(input, service, a),
+        b'A' => answer_step(input, service, a),
+        _ => Ok(Err(Refusal::Records)),
     }
 }
 
 // A start: 20 bytes more.
-fn start_step<R: Read>(input: &mut R, service: Service, a: u8) -> io::Result<Stepped> {
-    match read_start(input, a)? {
-        Started::Refused(_) => Ok(refused(service)),
-        Started::Service(s) => Ok(begun(s)),
-    }
+fn start_step<R: Read>(input: &mut R, a: u8) -> io::Result<Result<Stepped, Refusal>> {
+    let Some(b) = read_array::<R, 20>(input)? else {
+        return Ok(Err(Refusal::Records));
+    };
+    let started = start(config(a, b), u32::from(b[16]), u32::from(b[17]));
+    Ok(started.map(|service| Stepped {
+        step: Step::Closed(Ok(()), 0),
+        service,
+    }))
 }
 
-fn read_start<R: Read>(input: &mut R, a: u8) -> io::Result<Started> {
-    let mut b = [0u8; 20];
-    let got = read_full(input, &mut b)?;
-    if got < 20 {
-        return Ok(Started::Refused(20));
-    }
-    Ok(start(config(a, &b), at(&b, 16) as u32, at(&b, 17) as u32))
-}
-
-fn config(a: u8, b: &[u8]) -> OptionConfig {
+fn config(a: u8, b: [u8; 20]) -> Option<Config> {
     Config::from_numbers(
-        wide(a, at(b, 0), at(b, 1), at(b, 2)),
-        wide(at(b, 3), at(b, 4), 0, 0),
-        wide(at(b, 5), at(b, 6), 0, 0),
-        wide(at(b, 7), at(b, 8), 0, 0),
-        wide(at(b, 9), at(b, 10), 0, 0),
-        at(b, 11) as u64,
-        wide(at(b, 12), at(b, 13), at(b, 14), at(b, 15)),
+        u64::from(u32::from_le_bytes([a, b[0], b[1], b[2]])),
+        u64::from(u16::from_le_bytes([b[3], b[4]])),
+        u64::from(u16::from_le_bytes([b[5], b[6]])),
+        u64::from(u16::from_le_bytes([b[7], b[8]])),
+        u64::from(u16::from_le_bytes([b[9], b[10]])),
+        u64::from(b[11]),
+        u64::from(u32::from_le_bytes([b[12], b[13], b[14], b[15]])),
     )
 }
 
 // An event: 2 bytes more, and the records.
-fn open_step<R: Read>(input: &mut R, service: Service, kind: u8) -> io::Result<Stepped> {
-    let more = read_two(input)?;
-    let registration = service.registration;
-    let read = read_records(input, registration)?;
-    if read.ok {
-        let records = read.records;
-        return Ok(service.open(kind as u32, more.a as u32, more.b as u32, records));
-    }
-    Ok(refused(service))
+fn open_step<R: Read>(
+    input: &mut R,
+    service: Service,
+    kind: u8,
+) -> io::Result<Result<Stepped, Refusal>> {
+    let Some(more) = read_array::<R, 2>(input)? else {
+        return Ok(Err(Refusal::Records));
+    };
+    let [device, detail] = more;
+    let Some(records) = read_records(input, service.registration)? else {
+        return Ok(Err(Refusal::Records));
+    };
+    Ok(service.open(
+        u32::from(kind),
+        u32::from(device),
+        u32::from(detail),
+        records,
+    ))
 }
 
 // An answer: the records.
-fn answer_step<R: Read>(input: &mut R, service: Service, answer: u8) -> io::Result<Stepped> {
-    let registration = service.registration;
-    let read = read_records(input, registration)?;
-    if read.ok {
-        let records = read.records;
-        return Ok(service.answer(answer as u32, records));
-    }
-    Ok(refused(service))
+fn answer_step<R: Read>(
+    input: &mut R,
+    service: Service,
+    answer: u8,
+) -> io::Result<Result<Stepped, Refusal>> {
+    let Some(records) = read_records(input, service.registration)? else {
+        return Ok(Err(Refusal::Records));
+    };
+    Ok(service.answer(u32::from(answer), records))
 }
 
 // The records of all ports and chargers.
-#[derive(Clone, Copy)]
-struct ReadRecords {
-    ok: bool,
-    records: Records,
+fn read_records<R: Read>(input: &mut R, registration: Registration) -> io::Result<Option<Records>> {
+    let psus = read_psus(input, registration.ports)?;
+    let chargers = read_chargers(input, registration.chargers)?;
+    match (psus, chargers) {
+        (Some(psus), Some(chargers)) => Ok(Some(Records { psus, chargers })),
+        _ => Ok(None),
+    }
 }
 
-fn read_records<R: Read>(input: &mut R, registration: Registration) -> io::Result<ReadRecords> {
-    let p = read_psus(input, registration.ports)?;
-    let c = read_chargers(input, registration.chargers)?;
-    let psus = p.psus;
-    let chargers = c.chargers;
-    Ok(ReadRecords {
-        ok: p.ok && c.ok,
-        records: Records { psus, chargers },
-    })
-}
-
-fn read_psus<R: Read>(input: &mut R, ports: u8) -> io::Result<interface_records::psu::Row> {
+fn read_psus<R: Read>(input: &mut R, ports: u8) -> io::Result<Option<[psu::State; 16]>> {
     let mut bytes = [0u8; 288];
-    let n = least(ports, 16);
-    fill(input, &mut bytes, n * 18)?;
-    Ok(interface_records::psu::read_row(front(&bytes, n * 18), n))
+    let n = usize::from(ports.min(MAX_PORTS));
+    read_full(input, &mut bytes[..n * 18])?;
+    Ok(interface_records::psu::read_row(&bytes[..n * 18], n))
 }
 
-fn read_chargers<R: Read>(
-    input: &mut R,
-    chargers: u8,
-) -> io::Result<interface_records::charger::Row> {
+fn read_chargers<R: Read>(input: &mut R, chargers: u8) -> io::Result<Option<[charger::State; 8]>> {
     let mut bytes = [0u8; 56];
-    let n = least(chargers, 8);
-    fill(input, &mut bytes, n * 7)?;
-    Ok(interface_records::charger::read_row(front(&bytes, n * 7), n))
+    let n = usize::from(chargers.min(MAX_CHARGERS));
+    read_full(input, &mut bytes[..n * 7])?;
+    Ok(interface_records::charger::read_row(&bytes[..n * 7], n))
 }
 
-// Reads as many bytes to the front.
-fn fill<R: Read>(input: &mut R, s: &mut [u8], n: usize) -> io::Result<()> {
-    if n <= s.len() {
-        read_full(input, &mut s[..n])?;
-    }
-    Ok(())
-}
-
-// As many bytes from the front.
-fn front(s: &[u8], n: usize) -> &[u8] {
-    if s.len() < n {
-        return s;
-    }
-    &s[..n]
-}
-
-fn least(count: u8, most: u8) -> usize
-    ensures { result ≤ most }
-{
-    if count < most {
-        return count as usize;
-    }
-    most as usize
-}
-
-// Whether what a call led to is what the stream has after it. A start has nothing after it. A charger's event leaves the orders and
-// notices of the event before, and has none of its own.
-fn outcome<R: Read>(input: &mut R, letter: u8, kind: u8, stepped: Stepped) -> io::Result<bool> {
-    let step = stepped.step;
-    let service = stepped.service;
-    let memory = service.memory;
-    agrees(input, letter, kind, step, service.orders, memory)
-}
-
-fn agrees<R: Read>(
+// Whether what a call led to is what the stream has after it. A start has nothing after it.
+fn outcome<R: Read>(
     input: &mut R,
     letter: u8,
     kind: u8,
-    step: Step,
-    orders: u8,
-    memory: Memory,
+    stepped: Result<Stepped, Refusal>,
 ) -> io::Result<bool> {
-    if letter == 83 {
-        return Ok(is_started(step));
+    if letter == b'S' {
+        return Ok(stepped.is_ok());
     }
-    if letter == 79 {
-        if kind == 5 {
-            return compare(input, step, 0, without_notices(memory));
+    let bytes = read_array::<R, 64>(input)?;
+    match (bytes, stepped) {
+        (Some(v), Ok(s)) => {
+            let charger = letter == b'O' && kind == 5;
+            Ok(agrees(&v, s.step, if charger { own(s.service) } else { s.service }))
         }
+        _ => Ok(false),
     }
-    compare(input, step, orders, memory)
 }
 
-fn is_started(step: Step) -> bool {
+// A charger's event leaves the orders and notices of the event before, and has none of its own.
+fn own(mut service: Service) -> Service {
+    service.orders = 0;
+    service.memory.notices = Notices::new();
+    service
+}
+
+fn agrees(v: &[u8], step: Step, service: Service) -> bool {
     match step {
-        Step::Closed(_, _) => true,
-        Step::Order(_) => false,
-        Step::Refused(_) => false,
-    }
-}
-
-fn without_notices(memory: Memory) -> Memory {
-    let state = memory.state;
-    Memory {
-        state,
-        notices: Notices::new(),
-    }
-}
-
-fn compare<R: Read>(input: &mut R, step: Step, orders: u8, memory: Memory) -> io::Result<bool> {
-    let mut v = [0u8; 64];
-    let got = read_full(input, &mut v)?;
-    if got < 64 {
-        return Ok(false);
-    }
-    match step {
-        Step::Refused(_) => Ok(false),
-        Step::Order(order) => Ok(order_agrees(&v, order)),
+        Step::Order(order) => rest_of_order(v, order).is_some_and(zeros),
         Step::Closed(answer, given) => {
-            Ok(given == orders && close_agrees(&v, answer, orders, memory))
+            given == service.orders && close_agrees(v, answer, service)
         }
     }
 }
 
-fn close_agrees(v: &[u8], answer: psu::Result, orders: u8, memory: Memory) -> bool {
-    let notices = memory.notices;
-    let state = memory.state;
-    answer_agrees(v, answer)
-        && orders == at(v, 4)
-        && notices_agree(v, notices)
-        && held_agrees(v, state)
-}
-
-// An order: 1, its number, then the device and the capability as a group, then zeros.
-
-fn order_agrees(v: &[u8], order: Order) -> bool {
-    match order {
-        Order::Disconnect(port) => order_is(v, 1, Group::empty(port)),
-        Order::ConnectConsumer(port, c) => order_is(v, 2, Group::of_consumer(port, c)),
-        Order::ConnectProvider(port, c) => order_is(v, 3, Group::of_provider(port, c)),
-        Order::IsReady(charger) => order_is(v, 4, Group::empty(charger)),
-        Order::InitCharger(charger) => order_is(v, 5, Group::empty(charger)),
-        Order::Attach(charger, c) => order_is(v, 6, Group::of_consumer(charger, c)),
-        Order::Detach(charger) => order_is(v, 7, Group::empty(charger)),
-        Order::Wait => order_is(v, 8, Group::empty(0)),
-    }
-}
-
-fn order_is(v: &[u8], kind: u8, group: Group) -> bool {
-    at(v, 0) == 1 && at(v, 1) == kind && same(Group::at(v, 2), group) && zeros(v, 8, 64)
-}
-
-// A close: 2, the answer, the expected states and the actual one.
-
-fn answer_agrees(v: &[u8], answer: psu::Result) -> bool {
-    let m = mismatch(answer);
-    let actual = m.actual;
-    at(v, 0) == 2
-        && at(v, 1) == answer.byte()
-        && at(v, 2) == m.expected
-        && at(v, 3) == actual.number()
-}
-
-// The states that an error carries; zeros for none.
-fn mismatch(r: psu::Result) -> psu::Mismatch {
-    let none = psu::Mismatch {
-        expected: 0,
-        actual: psu::StateKind::Detached,
+// What is left after an order: 1, its number, then the device and the capability as a group.
+fn rest_of_order(v: &[u8], order: Order) -> Option<&[u8]> {
+    let (kind, g) = match order {
+        Order::Disconnect(port) => (1, Group::empty(port)),
+        Order::ConnectConsumer(port, c) => (2, Group::of(port, c)),
+        Order::ConnectProvider(port, c) => (3, Group::of(port, c)),
+        Order::IsReady(charger) => (4, Group::empty(charger)),
+        Order::InitCharger(charger) => (5, Group::empty(charger)),
+        Order::Attach(charger, c) => (6, Group::of(charger, c)),
+        Order::Detach(charger) => (7, Group::empty(charger)),
+        Order::Wait => (8, Group::empty(0)),
     };
-    let psu::Result::Err(e) = r else {
-        return none;
+    v.strip_prefix(&[1, kind, g.number, g.v0, g.v1, g.c0, g.c1, g.flags])
+}
+
+// A close: 2, the answer, the expected states and the actual one, the orders, the notices in 33 bytes, and what is held.
+fn close_agrees(v: &[u8], answer: Result<(), psu::Error>, service: Service) -> bool {
+    let mismatch = answer.err().and_then(|e| e.mismatch());
+    let head = [
+        2,
+        psu::answer_byte(answer),
+        psu::expected(mismatch),
+        psu::actual(mismatch),
+        service.orders,
+    ];
+    let Some(rest) = v.strip_prefix(&head) else {
+        return false;
     };
-    let psu::Error::InvalidState(o) = e else {
-        return none;
+    let Some((notices, held)) = rest.split_at_checked(33) else {
+        return false;
     };
-    let psu::OptionMismatch::Some(m) = o else {
-        return none;
+    rest_of_notices(notices, service.memory.notices).is_some_and(zeros)
+        && rest_of_held(held, service.memory.state).is_some_and(zeros)
+}
+
+// What is left after the notices: their number, then eight bytes each.
+fn rest_of_notices(v: &[u8], notices: Notices) -> Option<&[u8]> {
+    let list = notices_of(notices);
+    let mut rest = v.strip_prefix(&[list.len()])?;
+    for e in &list.events[..usize::from(list.len())] {
+        rest = rest.strip_prefix(&notice(*e))?;
+    }
+    Some(rest)
+}
+
+// A notice: its number, a group and 0.
+fn notice(e: Event) -> [u8; 8] {
+    let (kind, g) = match e {
+        Event::ConsumerDisconnected(port, flags) => (1, pair(port, u8::from(flags))),
+        Event::ConsumerConnected(port, c) => (2, Group::of(port, c)),
+        Event::ProviderDisconnected(port) => (3, Group::empty(port)),
+        Event::ProviderConnected(port, c) => (4, Group::of(port, c)),
+        Event::Unconstrained(u) => (5, pair(u8::from(u.unconstrained), u.available)),
     };
-    m
+    [kind, g.number, g.v0, g.v1, g.c0, g.c1, g.flags, 0]
 }
 
-// Notices: their number at 5, then eight bytes each from 6 on.
-
-// Whether the notices from a place on begin with one kind's, and how many there are with it.
-#[derive(Clone, Copy)]
-struct Told {
-    agrees: bool,
-    notices: u8,
+// What is left after what is held: the consumer, both unconstrained figures, the power state, the tracked ports.
+fn rest_of_held(v: &[u8], state: InternalState) -> Option<&[u8]> {
+    let figures = [
+        u8::from(state.unconstrained.unconstrained),
+        state.unconstrained.available,
+        power_number(state.current_provider_state),
+    ];
+    let rest = v
+        .strip_prefix(&consumer(state.current_consumer_state))?
+        .strip_prefix(&figures)?;
+    rest_of_tracked(rest, state.connected_providers)
 }
 
-// A notice of this kind stands at a place: a number, a group and 0.
-fn notice_at(v: &[u8], place: u8, kind: u8, group: Group) -> Told {
-    let from = 6 + (place as usize) * 8;
-    let agrees = at(v, from) == kind && same(Group::at(v, from + 1), group) && at(v, from + 7) == 0;
-    Told {
-        agrees,
-        notices: one_more(place),
-    }
-}
-
-fn untold(place: u8) -> Told {
-    Told {
-        agrees: true,
-        notices: place,
-    }
-}
-
-fn one_more(n: u8) -> u8 {
-    if n < 255 {
-        return n + 1;
-    }
-    n
-}
-
-fn notices_agree(v: &[u8], notices: Notices) -> bool {
-    let provider = notices.provider;
-    let disconnected = notices.disconnected;
-    let connected = notices.connected;
-    let unconstrained = notices.unconstrained;
-    let p = provider_told(v, provider);
-    let d = disconnected_told(v, p.notices, disconnected);
-    let c = connected_told(v, d.notices, connected);
-    let u = unconstrained_told(v, c.notices, unconstrained);
-    let n = u.notices;
-    p.agrees
-        && d.agrees
-        && c.agrees
-        && u.agrees
-        && n == at(v, 5)
-        && zeros(v, 6 + (n as usize) * 8, 38)
-}
-
-fn provider_told(v: &[u8], notice: ProviderNotice) -> Told {
-    match notice {
-        ProviderNotice::None => untold(0),
-        ProviderNotice::Disconnected(port) => notice_at(v, 0, 3, Group::empty(port)),
-        ProviderNotice::Connected(port, c) => notice_at(v, 0, 4, Group::of_provider(port, c)),
-    }
-}
-
-fn disconnected_told(v: &[u8], place: u8, notice: DisconnectedNotice) -> Told {
-    match notice {
-        DisconnectedNotice::None => untold(place),
-        DisconnectedNotice::Some(port, flags) => notice_at(v, place, 1, pair(port, flags.byte())),
-    }
-}
-
-fn connected_told(v: &[u8], place: u8, notice: OptionAvailableConsumer) -> Told {
-    match notice {
-        OptionAvailableConsumer::None => untold(place),
-        OptionAvailableConsumer::Some(c) => notice_at(v, place, 2, consumer(c)),
-    }
-}
-
-fn unconstrained_told(v: &[u8], place: u8, notice: UnconstrainedNotice) -> Told {
-    match notice {
-        UnconstrainedNotice::None => untold(place),
-        UnconstrainedNotice::Some(u) => {
-            notice_at(v, place, 5, pair(u.unconstrained as u8, u.available))
-        }
-    }
-}
-
-// What is held: the consumer at 38, both unconstrained figures, the power state, the tracked ports from 48 on.
-
-fn held_agrees(v: &[u8], state: InternalState) -> bool {
-    let c = state.current_consumer_state;
-    let u = state.unconstrained;
-    let power = state.current_provider_state;
-    let providers = state.connected_providers;
-    consumer_agrees(v, c)
-        && at(v, 45) == u.unconstrained as u8
-        && at(v, 46) == u.available
-        && at(v, 47) == power_number(power)
-        && tracked_agree(v, providers)
-}
-
-fn consumer_agrees(v: &[u8], c: OptionAvailableConsumer) -> bool {
+// The consumer: 1 and a group, or zeros.
+fn consumer(c: Option<AvailableConsumer>) -> [u8; 7] {
     match c {
-        OptionAvailableConsumer::None => zeros(v, 38, 45),
-        OptionAvailableConsumer::Some(a) => at(v, 38) == 1 && same(Group::at(v, 39), consumer(a)),
+        None => [0; 7],
+        Some(c) => {
+            let g = Group::of(c.psu, c.consumer_power_capability);
+            [1, g.number, g.v0, g.v1, g.c0, g.c1, g.flags]
+        }
     }
 }
 
@@ -425,155 +295,63 @@ fn power_number(p: PowerState) -> u8 {
     }
 }
 
-fn tracked_agree(v: &[u8], providers: Providers) -> bool {
-    let mut n: u8 = 0;
-    let mut i: u8 = 0;
-    while i < 16 {
-        if !tracked_at(v, n, providers.contains(i), i) {
-            return false;
+// What is left after the tracked ports: how many there are, then each.
+fn rest_of_tracked(v: &[u8], providers: Providers) -> Option<&[u8]> {
+    let (count, mut rest) = v.split_first()?;
+    if u32::from(*count) != providers.len() {
+        return None;
+    }
+    for port in 0..MAX_PORTS {
+        if providers.contains(port) {
+            rest = rest.strip_prefix(&[port])?;
         }
-        n = counted(n, providers.contains(i));
-        i += 1;
     }
-    n == at(v, 48) && zeros(v, 49 + (n as usize), 64)
+    Some(rest)
 }
 
-fn tracked_at(v: &[u8], n: u8, tracked: bool, port: u8) -> bool {
-    if tracked {
-        return at(v, 49 + (n as usize)) == port;
-    }
-    true
-}
-
-fn counted(n: u8, tracked: bool) -> u8 {
-    if tracked {
-        return one_more(n);
-    }
-    n
-}
-
-// Bytes
-
-fn consumer(c: AvailableConsumer) -> Group {
-    let capability = c.consumer_power_capability;
-    Group::of_consumer(c.psu, capability)
-}
-
-fn pair(a: u8, b: u8) -> Group {
+// Two bytes, and no more of a group.
+fn pair(number: u8, v0: u8) -> Group {
     Group {
-        number: a,
-        v0: b,
-        v1: 0,
-        c0: 0,
-        c1: 0,
-        flags: 0,
+        v0,
+        ..Group::empty(number)
     }
 }
 
-fn same(a: Group, b: Group) -> bool {
-    a.number == b.number
-        && a.v0 == b.v0
-        && a.v1 == b.v1
-        && a.c0 == b.c0
-        && a.c1 == b.c1
-        && a.flags == b.flags
+fn zeros(v: &[u8]) -> bool {
+    v.iter().all(|b| *b == 0)
 }
 
-fn zeros(v: &[u8], from: usize, to: usize) -> bool {
-    let mut i = from;
-    while i < to {
-        if at(v, i) != 0 {
-            return false;
-        }
-        i += 1;
-    }
-    true
-}
-
-fn wide(b0: u8, b1: u8, b2: u8, b3: u8) -> u64 {
-    (b0 as u64) + (b1 as u64) * 256 + (b2 as u64) * 65536 + (b3 as u64) * 16777216
-}
-
-fn at(s: &[u8], i: usize) -> u8 {
-    if i < s.len() { s[i] } else { 0 }
-}
-
-// One more, if so.
-fn plus(n: u64, more: bool) -> u64 {
-    if more {
-        if n < 0xffff_ffff {
-            return n + 1;
+fn count_all<R: Read>(input: &mut R, mut service: Service) -> io::Result<Count> {
+    let mut count = Count::default();
+    for _ in 0..u32::MAX {
+        let Some(head) = read_head(input)? else {
+            break;
+        };
+        let [letter, a] = head;
+        let stepped = step(input, service, letter, a)?;
+        let agrees = outcome(input, letter, a, stepped)?;
+        count.add(letter, agrees);
+        if let Ok(s) = stepped {
+            service = s.service;
         }
     }
-    n
-}
-
-// The first that differs, once there is one.
-fn first_of(first: u64, differ: u64, agrees: bool, vectors: u64) -> u64 {
-    if 0 < differ {
-        return first;
-    }
-    if agrees {
-        return first;
-    }
-    vectors
-}
-
-fn count_all<R: Read>(input: &mut R, service: Service) -> io::Result<Count> {
-    let mut s = service;
-    let mut calls: u64 = 0;
-    let mut events: u64 = 0;
-    let mut vectors: u64 = 0;
-    let mut differ: u64 = 0;
-    let mut first: u64 = 0;
-    while calls < 0xffff_ffff {
-        let head = read_two(input)?;
-        if head.end {
-            return Ok(Count {
-                events,
-                vectors,
-                differ,
-                first,
-            });
-        }
-        let letter = head.a;
-        let stepped = step(input, s, letter, head.b)?;
-        s = stepped.service;
-        let agrees = outcome(input, letter, head.b, stepped)?;
-        events = plus(events, letter == 79);
-        vectors = plus(vectors, letter != 83);
-        first = first_of(first, differ, agrees, vectors);
-        differ = plus(differ, !agrees);
-        calls += 1;
-    }
-    Ok(Count {
-        events,
-        vectors,
-        differ,
-        first,
-    })
+    Ok(count)
 }
 
 fn say(rt: &impl Print, c: Count) -> io::Result<()> {
-    let events = c.events;
-    let vectors = c.vectors;
-    let differ = c.differ;
-    println!(rt; "{events} events")?;
-    println!(rt; "{vectors} vectors, {differ} differ")?;
-    if 0 < differ {
-        let first = c.first;
-        println!(rt; "first: {first}")?;
+    println!(rt; "{} events", c.events)?;
+    println!(rt; "{} vectors, {} differ", c.vectors, c.differ)?;
+    if 0 < c.differ {
+        println!(rt; "first: {}", c.first)?;
     }
     Ok(())
 }
 
 // A service with no ports: the stream begins with a start.
 fn main(rt: HostRuntime) -> io::Result<()> {
-    match start(OptionConfig::Some(Config::default()), 0, 0) {
-        Started::Refused(_) => Ok(()),
-        Started::Service(s) => {
-            let count = count_all(&mut rt.reader(), s)?;
-            say(&rt, count)
-        }
-    }
+    let Ok(service) = start(Some(Config::default()), 0, 0) else {
+        return Ok(());
+    };
+    let count = count_all(&mut rt.reader(), service)?;
+    say(&rt, count)
 }

@@ -20,16 +20,16 @@ fn read<R: Read, W: Write>(reader: &mut R, told: &mut W) -> Ended
     ensures runs { ((l : List (List ℕ)) × (result.desk ≡ (sheet_run l).desk)) × (result.end ≡ End.Unwritten → ⊥) }
     ensures shows { result.end ≡ End.Read → IfSome (R.remaining reader.old) (λ s. result.desk.follower ≡ sheet_shows s) }
 {
-    let sink = Sink { needed: false };
-    desk_stream::run(Desk::new(false), sink, reader, told)
+    desk_stream::run(Desk::new(false), Sink { needed: false }, reader, told)
 }
 
 // The page of a desk's follower.
 fn page_of(desk: Desk, out: &mut [u8; 246])
     ensures { out.new ≡ page_bytes (page_for desk.follower) }
 {
-    let follower = desk.follower;
-    page::write(Page::of(follower), out);
+    let Ok(_) = page::write(Page::of(desk.follower), out) else {
+        unreachable!();
+    };
 }
 
 // Reads to the end, and gives the page of the bytes that were read.
@@ -39,10 +39,8 @@ fn read_page<R: Read, W: Write>(reader: &mut R, told: &mut W, out: &mut [u8; 246
     ensures whole { result ≡ End.Read → IfSome (R.remaining reader.old) (λ s. out.new ≡ sheet_page s) }
 {
     let ended = read(reader, told);
-    let desk = ended.desk;
-    let end = ended.end;
-    page_of(desk, out);
-    end
+    page_of(ended.desk, out);
+    ended.end
 }
 
 // Writes the page, or says that standard output does not take it.
@@ -62,12 +60,10 @@ fn sheet(rt: &HostRuntime) {
     write_page(rt, &out);
 }
 
-// Whether there is an argument after the program's own name.
+// Whether there is an argument after the program's own name. Each program has its own: a library's public function says what it gives,
+// and no contract says what the arguments are.
 fn has_arguments(rt: &impl Env) -> bool {
-    match rt.arg(1, &mut []) {
-        Err(FillError::NotPresent) => false,
-        _ => true,
-    }
+    !matches!(rt.arg(1, &mut []), Err(FillError::NotPresent))
 }
 
 // What standard error does not take is dropped.

@@ -1,6 +1,7 @@
 -- A well-formed packet takes at most 64 bytes: a number takes at most five, mV and mA three each, and there are at most four notices
 -- and 16 ports.
 -- Assumes nothing.
+use Rattle.std.specs.Prelude.{None, Option, Some}
 use mathlib.Core.Path.{◌≡◌}
 use mathlib.Core.Bool.{true}
 use mathlib.Core.List.{List, [], ◌∷◌, ◌++◌}
@@ -14,7 +15,7 @@ use Rattle.power_policy_interface.specs.declared.capability.PowerCapability.{Pow
 use Rattle.power_policy_interface.specs.declared.service.event.Event.{Event}
 use Rattle.interface_display.specs.Notices.{listed, length_of, padded}
 use Rattle.interface_display.specs.Providers.{len}
-use Rattle.interface_display.specs.declared.OptionAvailableConsumer.{OptionAvailableConsumer}
+use Rattle.interface_display.specs.declared.AvailableConsumer.{AvailableConsumer}
 use Rattle.interface_display.specs.declared.packet.EventPacket.{EventPacket}
 use Rattle.interface_display.specs.declared.packet.Packet.{Packet}
 use Rattle.interface_display.specs.declared.packet.Picture.{Picture}
@@ -64,14 +65,15 @@ event_length p h =
     let h2 = and_right (leb p.number 4294967295) _ h1 in
     let h3 = and_right (leb p.answer 10) _ h2 in
     let h4 = and_right (leb p.orders 35) _ h3 in
+    let g = and_left (padded p.notices) _ h4 in
     let f = and_right (padded p.notices) (notices_fit (listed p.notices)) h4 in
     let tail = length_of p.notices ∷ all_bytes (listed p.notices) in
-    omega (arith, length-append (leb128 p.number) (p.answer ∷ (leb128 p.orders ++ tail)), length-append (leb128 p.orders) tail, length_to p.number, length_to p.orders, all_length (listed p.notices) f, at_most_four p.notices)
+    omega (arith, length-append (leb128 p.number) (p.answer ∷ (leb128 p.orders ++ tail)), length-append (leb128 p.orders) tail, length_to p.number, length_to p.orders, all_length (listed p.notices) f, at_most_four p.notices g)
 
-consumer_length : (c : OptionAvailableConsumer) → consumer_fits c ≡ true → length (consumer_bytes c) ≤ 9
+consumer_length : (c : Option AvailableConsumer) → consumer_fits c ≡ true → length (consumer_bytes c) ≤ 9
 unfolding consumer_bytes
-consumer_length OptionAvailableConsumer.None h = omega arith
-consumer_length (OptionAvailableConsumer.Some c) h =
+consumer_length None h = omega arith
+consumer_length (Some c) h =
     omega (arith, contract_length c.psu c.consumer_power_capability.capability (consumer_flags_byte c.consumer_power_capability.flags) h)
 
 ports_length : (m : ℕ) → length (ports_bytes m) ≤ 16

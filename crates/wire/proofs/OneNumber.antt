@@ -1,7 +1,8 @@
 -- A number has one encoding: its digits are read back to it, whatever follows them, and bytes that are read are its digits. By
 -- induction on the number of digits: n is n % 128 and n / 128 · 128.
 -- Assumes nothing.
-use mathlib.Core.Path.{◌≡◌, refl, ap}
+use Rattle.std.specs.Prelude.{Result, Ok, Err}
+use mathlib.Core.Path.{◌≡◌, refl, ap, sym}
 use mathlib.Core.Bool.{Bool, true, false, cond}
 use mathlib.Core.List.{List, [], ◌∷◌, ◌++◌}
 use Prim.Native.Nat.{ℕ, zero, suc, ◌+◌, ◌-◌, ◌*◌, ◌/◌, ◌%◌, ◌≤◌, ◌<◌}
@@ -12,7 +13,7 @@ use lib.Seq.{drop_at}
 use borrow.Author.Tests.{lt-ltb, le-ltb, le-leb, ne_eqb, ltb-false, eqb-false}
 use Rattle.wire.specs.Number.{digits, leb128, digits_read, digit_before, within, read_number}
 use Rattle.wire.specs.Parser.{parsed, number}
-use Rattle.wire.specs.declared.number.ReadNumber.{ReadNumber}
+use Rattle.wire.proofs.Leb128.{same_number}
 use Rattle.wire.proofs.Stores.{length_from, length_to}
 
 -- every element is a byte
@@ -33,14 +34,14 @@ few_less (suc k) n h = few_less k (n / 128) (omega arith)
 
 -- reading what was written
 
-digits_back : (k n : ℕ) (r : List ℕ) → Few k n → digits_read k (digits k n ++ r) ≡ ReadNumber.Number n (length (digits k n))
+digits_back : (k n : ℕ) (r : List ℕ) → Few k n → digits_read k (digits k n ++ r) ≡ Ok (n, length (digits k n))
 digits_back zero n r h = rw (lt-ltb n 128 h)
 digits_back (suc k) n r h = tested (ltb n 128) refl (digits_back k (n / 128) r h)
   where
     tested : (t : Bool) → ltb n 128 ≡ t
-        → digits_read k (digits k (n / 128) ++ r) ≡ ReadNumber.Number (n / 128) (length (digits k (n / 128)))
+        → digits_read k (digits k (n / 128) ++ r) ≡ Ok (n / 128, length (digits k (n / 128)))
         → digits_read (suc k) (cond t (n ∷ []) ((128 + n % 128) ∷ digits k (n / 128)) ++ r)
-        ≡ ReadNumber.Number n (length (cond t (n ∷ []) ((128 + n % 128) ∷ digits k (n / 128))))
+        ≡ Ok (n, length (cond t (n ∷ []) ((128 + n % 128) ∷ digits k (n / 128))))
     tested true p q = rw p
     tested false p q =
         let g : 128 ≤ n = ltb-false n 128 p in
@@ -53,7 +54,7 @@ few : (n : ℕ) → n ≤ 4294967295 → Few 4 n
 few n h = omega arith
 
 pub read_write : (limit n : ℕ) (r : List ℕ) → n ≤ limit → n ≤ 4294967295
-    → read_number limit (leb128 n ++ r) ≡ ReadNumber.Number n (length (leb128 n))
+    → read_number limit (leb128 n ++ r) ≡ Ok (n, length (leb128 n))
 unfolding leb128 read_number
 read_write limit n r h g = rw (digits_back 4 n r (few n g), le-leb n limit h)
 
@@ -63,23 +64,24 @@ number_back limit n r h g = rw (read_write limit n r h g, drop_at (leb128 n) r (
 
 -- what was read was written so
 
-record Before (d : ℕ) (r : ReadNumber) (v u : ℕ) : Type 0 where
+record Before (d : ℕ) (r : Result (ℕ × ℕ) ℕ) (v u : ℕ) : Type 0 where
   value : ℕ
   used : ℕ
-  read : r ≡ ReadNumber.Number value used
+  read : r ≡ Ok (value, used)
   positive : value ≡ 0 → ⊥
   sum : v ≡ d + value * 128
   more : u ≡ suc used
 
-before_told : (d : ℕ) (r : ReadNumber) (v u : ℕ) → digit_before d r ≡ ReadNumber.Number v u → Before d r v u
-before_told d (ReadNumber.Refused n) v u e = absurd (let z : ◌≡◌ {A = ℕ} 0 1 = cc in omega arith)
-before_told d (ReadNumber.Number w x) v u e = tested (eqb w 0) refl e
+before_told : (d : ℕ) (r : Result (ℕ × ℕ) ℕ) (v u : ℕ) → digit_before d r ≡ Ok (v, u) → Before d r v u
+before_told d (Err n) v u e = absurd (let z : ◌≡◌ {A = ℕ} 0 1 = cc in omega arith)
+before_told d (Ok (w, x)) v u e = tested (eqb w 0) refl e
   where
-    tested : (t : Bool) → eqb w 0 ≡ t → cond t (ReadNumber.Refused 31) (ReadNumber.Number (d + w * 128) (suc x)) ≡ ReadNumber.Number v u
-        → Before d (ReadNumber.Number w x) v u
+    tested : (t : Bool) → eqb w 0 ≡ t → cond {A = Result (ℕ × ℕ) ℕ} t (Err 31) (Ok (d + w * 128, suc x)) ≡ Ok (v, u)
+        → Before d (Ok (w, x)) v u
     tested true p q = absurd (let z : ◌≡◌ {A = ℕ} 0 1 = cc in omega arith)
     tested false p q =
-        record { value = w; used = x; read = refl; positive = eqb-false w 0 p; sum = (let k : v ≡ d + w * 128 = cc in k); more = (let k : u ≡ suc x = cc in k) }
+        let k = same_number v u (d + w * 128) (suc x) (sym q) in
+        record { value = w; used = x; read = refl; positive = eqb-false w 0 p; sum = k.0; more = k.1 }
 
 pub record Written (k : ℕ) (s : List ℕ) (v u : ℕ) : Type 0 where
   pub bytes : s ≡ digits k v ++ drop u s
@@ -88,26 +90,24 @@ digit_more : (k b v u w x : ℕ) (s : List ℕ) → 128 ≤ v → 128 + v % 128 
     → Written (suc k) (b ∷ s) v u
 digit_more k b v u w x s d m n g q = record { bytes = rw (le-ltb v 128 d, m, n, g) (ap (λ (l : List ℕ). b ∷ l) q) }
 
-digits_forth : (k : ℕ) (s : List ℕ) (v u : ℕ) → AllBytes s → digits_read k s ≡ ReadNumber.Number v u → Written k s v u
+digits_forth : (k : ℕ) (s : List ℕ) (v u : ℕ) → AllBytes s → digits_read k s ≡ Ok (v, u) → Written k s v u
 digits_forth k [] v u h e = absurd (let z : ◌≡◌ {A = ℕ} 0 1 = cc in omega arith)
 digits_forth zero (b ∷ s) v u h e = tested (ltb b 128) e
   where
-    tested : (t : Bool) → cond t (ReadNumber.Number b 1) (ReadNumber.Refused 31) ≡ ReadNumber.Number v u → Written zero (b ∷ s) v u
+    tested : (t : Bool) → cond {A = Result (ℕ × ℕ) ℕ} t (Ok (b, 1)) (Err 31) ≡ Ok (v, u) → Written zero (b ∷ s) v u
     tested true q =
-        let f : v ≡ b = cc in
-        let g : u ≡ 1 = cc in
-        record { bytes = rw (f, g) }
+        let k = same_number v u b 1 (sym q) in
+        record { bytes = rw (k.0, k.1) }
     tested false q = absurd (let z : ◌≡◌ {A = ℕ} 0 1 = cc in omega arith)
 digits_forth (suc k) (b ∷ s) v u h e = tested (ltb b 128) refl e (λ w x. digits_forth k s w x (tail_bytes b s h))
   where
     tested : (t : Bool) → ltb b 128 ≡ t
-        → cond t (ReadNumber.Number b 1) (digit_before (b - 128) (digits_read k s)) ≡ ReadNumber.Number v u
-        → ((w x : ℕ) → digits_read k s ≡ ReadNumber.Number w x → Written k s w x)
+        → cond {A = Result (ℕ × ℕ) ℕ} t (Ok (b, 1)) (digit_before (b - 128) (digits_read k s)) ≡ Ok (v, u)
+        → ((w x : ℕ) → digits_read k s ≡ Ok (w, x) → Written k s w x)
         → Written (suc k) (b ∷ s) v u
     tested true p q ih =
-        let f : v ≡ b = cc in
-        let g : u ≡ 1 = cc in
-        record { bytes = rw (f, g, p) }
+        let k = same_number v u b 1 (sym q) in
+        record { bytes = rw (k.0, k.1, p) }
     tested false p q ih =
         let t = before_told (b - 128) (digits_read k s) v u q in
         let w = t.value in
@@ -118,16 +118,16 @@ digits_forth (suc k) (b ∷ s) v u h e = tested (ltb b 128) refl e (λ w x. digi
         let n : v / 128 ≡ w = omega (arith, t.sum) in
         digit_more k b v u w t.used s d m n t.more (ih w t.used t.read).bytes
 
-within_told : (limit : ℕ) (r : ReadNumber) (v u : ℕ) → within limit r ≡ ReadNumber.Number v u → r ≡ ReadNumber.Number v u
-within_told limit (ReadNumber.Refused n) v u e = absurd (let z : ◌≡◌ {A = ℕ} 0 1 = cc in omega arith)
-within_told limit (ReadNumber.Number w x) v u e = tested (leb w limit) e
+within_told : (limit : ℕ) (r : Result (ℕ × ℕ) ℕ) (v u : ℕ) → within limit r ≡ Ok (v, u) → r ≡ Ok (v, u)
+within_told limit (Err n) v u e = absurd (let z : ◌≡◌ {A = ℕ} 0 1 = cc in omega arith)
+within_told limit (Ok (w, x)) v u e = tested (leb w limit) e
   where
-    tested : (t : Bool) → cond t (ReadNumber.Number w x) (ReadNumber.Refused 31) ≡ ReadNumber.Number v u
-        → ReadNumber.Number w x ≡ ReadNumber.Number v u
+    tested : (t : Bool) → cond {A = Result (ℕ × ℕ) ℕ} t (Ok (w, x)) (Err 31) ≡ Ok (v, u)
+        → ◌≡◌ {A = Result (ℕ × ℕ) ℕ} (Ok (w, x)) (Ok (v, u))
     tested true q = q
     tested false q = absurd (let z : ◌≡◌ {A = ℕ} 0 1 = cc in omega arith)
 
-pub write_read : (limit : ℕ) (s : List ℕ) (v u : ℕ) → AllBytes s → read_number limit s ≡ ReadNumber.Number v u → s ≡ leb128 v ++ drop u s
+pub write_read : (limit : ℕ) (s : List ℕ) (v u : ℕ) → AllBytes s → read_number limit s ≡ Ok (v, u) → s ≡ leb128 v ++ drop u s
 unfolding leb128 read_number
 write_read limit s v u h e = (digits_forth 4 s v u h (within_told limit (digits_read 4 s) v u e)).bytes
 
@@ -145,6 +145,6 @@ pub p11_300 : leb128 300 ≡ 0xAC ∷ 0x02 ∷ []
 unfolding leb128
 p11_300 = refl
 
-pub p11_refused : (limit : ℕ) (r : List ℕ) → read_number limit (0x80 ∷ 0x00 ∷ r) ≡ ReadNumber.Refused 31
+pub p11_refused : (limit : ℕ) (r : List ℕ) → read_number limit (0x80 ∷ 0x00 ∷ r) ≡ Err 31
 unfolding read_number
 p11_refused limit r = refl

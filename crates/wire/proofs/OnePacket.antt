@@ -1,6 +1,7 @@
 -- A packet has one encoding: a well-formed packet is read back from its bytes, nothing left over; and bytes that are read are those of a
 -- well-formed packet, the one that was read.
 -- Assumes nothing.
+use Rattle.std.specs.Prelude.{None, Ok, Option, Some}
 use mathlib.Core.Path.{◌≡◌, refl, ap, sym, ◌∙◌}
 use mathlib.Core.Bool.{Bool, true, false, ◌&&◌}
 use mathlib.Core.List.{List, [], ◌∷◌, ◌++◌, append_assoc, append-nil}
@@ -16,7 +17,7 @@ use Rattle.power_policy_interface.proofs.Conjunction.{and_both}
 use Rattle.interface_display.proofs.Four.{rebuilt, rebuilt_padded, rebuilt_listed}
 use Rattle.interface_display.specs.Notices.{empty, pushed, listed, length_of, padded}
 use Rattle.interface_display.specs.Providers.{ones, len}
-use Rattle.interface_display.specs.declared.OptionAvailableConsumer.{OptionAvailableConsumer}
+use Rattle.interface_display.specs.declared.AvailableConsumer.{AvailableConsumer}
 use Rattle.interface_display.specs.declared.notices.Notices.{Notices}
 use Rattle.interface_display.specs.declared.packet.Packet.{Packet}
 use Rattle.interface_display.specs.declared.providers.Providers.{Providers}
@@ -26,7 +27,6 @@ use Rattle.wire.specs.Packet.{notice, notices, ports, consumer, consumer_given, 
 use Rattle.wire.specs.Bytes.{notice_bytes, all_bytes, unconstrained_bytes, ports_from, ports_bytes, consumer_bytes, event_bytes, picture_bytes, packet_bytes}
 use Rattle.wire.specs.Read.{packet_read, read_packet}
 use Rattle.wire.specs.WellFormed.{notices_fit, consumer_fits, event_fits, picture_fits, well_formed}
-use Rattle.wire.specs.declared.packet.ReadPacket.{ReadPacket}
 use Rattle.wire.proofs.OneNumber.{AllBytes}
 use Rattle.wire.proofs.ReadWrite.{appended, appended_rebuilt, event_read_write}
 use Rattle.wire.proofs.Tracked.{add_all, odd, even, count_ports, picture_read_write}
@@ -227,30 +227,30 @@ tracked_whole k s q t =
 
 -- a full picture
 
-record Option (s : List ℕ) (c : OptionAvailableConsumer) (r : List ℕ) : Type 0 where
+record Given (s : List ℕ) (c : Option AvailableConsumer) (r : List ℕ) : Type 0 where
   front : s ≡ consumer_bytes c ++ r
   fit : consumer_fits c ≡ true
 
-option_told : (b : ℕ) (q : List ℕ) (c : OptionAvailableConsumer) (r : List ℕ) → AllBytes q → leb b 1 ≡ true → consumer_given b q ≡ parsed c r
-    → Option (b ∷ q) c r
+option_told : (b : ℕ) (q : List ℕ) (c : Option AvailableConsumer) (r : List ℕ) → AllBytes q → leb b 1 ≡ true → consumer_given b q ≡ parsed c r
+    → Given (b ∷ q) c r
 unfolding consumer_bytes
 option_told zero q c r h l p = none
   where
-    none : Option (zero ∷ q) c r
+    none : Given (zero ∷ q) c r
     none =
-        let f : OptionAvailableConsumer.None ≡ c = cc in
+        let f : None ≡ c = cc in
         let g : q ≡ r = cc in
         record { front = λ i. consumer_bytes (f i) ++ g i; fit = ap consumer_fits (sym f) }
 option_told (suc zero) q c r h l p =
     let t = then_told (consumer q) _ c r p in
     let g = consumer_told q t.value t.rest h t.first in
-    let f : OptionAvailableConsumer.Some t.value ≡ c = (let z = t.second in cc) in
+    let f : Some t.value ≡ c = (let z = t.second in cc) in
     let y : t.rest ≡ r = (let z = t.second in cc) in
     record { front = ap (λ (x : List ℕ). 1 ∷ x) g.front ∙ (λ i. consumer_bytes (f i) ++ y i); fit = ap consumer_fits (sym f) ∙ g.fit }
 option_told (suc (suc b)) q c r h l p = absurd (omega (arith, leb-true (suc (suc b)) 1 l))
 
-picture_made : (n b count : ℕ) (c : OptionAvailableConsumer) (u : UnconstrainedState) (k : Providers) (p : Packet) (q q1 q2 q3 q4 : List ℕ)
-    → q ≡ leb128 n ++ q1 → Option q1 c q2 → q2 ≡ unconstrained_bytes u ++ q3 → q3 ≡ count ∷ q4
+picture_made : (n b count : ℕ) (c : Option AvailableConsumer) (u : UnconstrainedState) (k : Providers) (p : Packet) (q q1 q2 q3 q4 : List ℕ)
+    → q ≡ leb128 n ++ q1 → Given q1 c q2 → q2 ≡ unconstrained_bytes u ++ q3 → q3 ≡ count ∷ q4
     → n ≤ 4294967295 → leb u.available 16 ≡ true → leb count 4 ≡ true → Tracked count q4 k
     → Packet.Picture (record { number = n; display = record { consumer = c; unconstrained = u; providers = k } }) ≡ p
     → Whole (2 ∷ q) p
@@ -301,7 +301,7 @@ whole s p r h e =
     let w = kind_whole t.value t.rest p r (rest_bytes s (t.value ∷ []) t.rest f h) t.second in
     record { bytes = f ∙ w.bytes; fits = w.fits }
 
-read_told : (s : List ℕ) (p : Packet) (x : Parsed Packet) → packet s ≡ x → AllBytes s → packet_read x ≡ ReadPacket.Packet p → Whole s p
+read_told : (s : List ℕ) (p : Packet) (x : Parsed Packet) → packet s ≡ x → AllBytes s → packet_read x ≡ Ok p → Whole s p
 read_told s p (refused n) e h q = absurd (let z : ◌≡◌ {A = ℕ} 0 1 = cc in omega arith)
 read_told s p (parsed a r) e h q =
     let f : a ≡ p = cc in
@@ -309,9 +309,9 @@ read_told s p (parsed a r) e h q =
 
 -- the two laws
 
-pub read_write : (p : Packet) → well_formed p ≡ true → read_packet (packet_bytes p) ≡ ReadPacket.Packet p
+pub read_write : (p : Packet) → well_formed p ≡ true → read_packet (packet_bytes p) ≡ Ok p
 read_write (Packet.Event p) h = ap packet_read (event_read_write p h)
 read_write (Packet.Picture p) h = ap packet_read (picture_read_write p h)
 
-pub write_read : (s : List ℕ) (p : Packet) → AllBytes s → read_packet s ≡ ReadPacket.Packet p → Whole s p
+pub write_read : (s : List ℕ) (p : Packet) → AllBytes s → read_packet s ≡ Ok p → Whole s p
 write_read s p h e = read_told s p (packet s) refl h e

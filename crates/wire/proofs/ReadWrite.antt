@@ -98,10 +98,10 @@ appended_rebuilt (a ∷ b ∷ c ∷ d ∷ []) h = refl
 appended_rebuilt (a ∷ b ∷ c ∷ d ∷ e ∷ l) h = absurd (omega arith)
 
 all_listed : (n : Notices) → padded n ≡ true → appended empty (listed n) ≡ n
-all_listed n h = appended_rebuilt (listed n) (at_most_four n) ∙ padded_rebuilt n h
+all_listed n h = appended_rebuilt (listed n) (at_most_four n h) ∙ padded_rebuilt n h
 
-count_fits : (n : Notices) → leb (length_of n) 4 ≡ true
-count_fits n = le-leb (length_of n) 4 (at_most_four n)
+count_fits : (n : Notices) → padded n ≡ true → leb (length_of n) 4 ≡ true
+count_fits n h = le-leb (length_of n) 4 (at_most_four n h)
 
 -- an event packet
 
@@ -123,4 +123,4 @@ event_read_write p h =
     let tail = length_of n ∷ all_bytes (listed n) in
     let all : notices (length_of n) empty (all_bytes (listed n)) ≡ parsed n [] =
     rw (← append-nil (all_bytes (listed n))) (notices_back (listed n) empty [] f ∙ ap (λ (m : Notices). parsed m []) (all_listed n g)) in
-    rw (number_back 4294967295 p.number (p.answer ∷ (leb128 p.orders ++ tail)) b b, a, field_back 10 p.answer (leb128 p.orders ++ tail) c, number_back 4294967295 p.orders tail o o, d, field_back 4 (length_of n) (all_bytes (listed n)) (count_fits n), all)
+    rw (number_back 4294967295 p.number (p.answer ∷ (leb128 p.orders ++ tail)) b b, a, field_back 10 p.answer (leb128 p.orders ++ tail) c, number_back 4294967295 p.orders tail o o, d, field_back 4 (length_of n) (all_bytes (listed n)) (count_fits n g), all)

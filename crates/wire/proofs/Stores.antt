@@ -1,19 +1,17 @@
 -- Runs of stores, one after the other, are one run; and a number takes 1 to 5 places, at most 3 below 65,536.
 -- Assumes nothing.
-use mathlib.Core.Path.{◌≡◌, refl, ap, sym, ◌∙◌}
+use mathlib.Core.Path.{◌≡◌, refl, sym, ◌∙◌}
 use mathlib.Core.Bool.{Bool, true, false, cond}
 use mathlib.Core.List.{List, [], ◌∷◌, ◌++◌}
 use Prim.Native.Nat.{ℕ, zero, suc, ◌+◌, ◌-◌, ◌/◌, ◌%◌, ◌≤◌, ◌<◌}
 use native.Mathlib.Nat.{add-zero}
-use native.Mathlib.Numerals.{add-one, add-two}
+use native.Mathlib.Numerals.{add-one}
 use native.Mathlib.Omega.{arith}
 use lib.Dec.{ltb}
-use lib.ListN.{length, set, length-append}
-use lib.Seq.{sets, length-sets}
-use borrow.Author.Tests.{ltb-false, le-leb, eq-eqb, ne_eqb}
-use mir.Val.{bool_byte}
-use Rattle.power_policy_interface.specs.Capability.{bit}
-use Rattle.wire.specs.Number.{digits, leb128, written, next}
+use lib.ListN.{length, set}
+use lib.Seq.{sets}
+use borrow.Author.Tests.{ltb-false, eq-eqb, ne_eqb}
+use Rattle.wire.specs.Number.{digits, leb128}
 use Rattle.wire.specs.Bytes.{ports_from}
 
 pub sets_append : (vs ws l : List ℕ) (i : ℕ) → sets (sets l i vs) (i + length vs) ws ≡ sets l i (vs ++ ws)
@@ -21,33 +19,6 @@ sets_append [] ws l i = rw add-zero
 sets_append (v ∷ vs) ws l i =
     let e : i + suc (length vs) ≡ suc i + length vs = omega arith in
     rw e (sets_append vs ws (set l i v) (suc i))
-
--- `vs` is stored in `o` from a place on: the place after it, and the list then
-pub record Put (o : List ℕ) (at : ℕ) (vs : List ℕ) (r : ℕ) (l : List ℕ) : Type 0 where
-  pub place : r ≡ at + length vs
-  pub bytes : l ≡ sets o at vs
-
-pub one : (o : List ℕ) (at x : ℕ) → Put o at (x ∷ []) (at + 1) (set o at x)
-one o at x = record { place = refl; bytes = refl }
-
-pub three : (o : List ℕ) (at x y z : ℕ) → Put o at (x ∷ y ∷ z ∷ []) (at + 3) (set (set (set o at x) (at + 1) y) (at + 2) z)
-three o at x y z = record { place = refl; bytes = rw (add-one at, add-two at) }
-
-pub joined : {o vs l ws q : List ℕ} {at r t : ℕ} → Put o at vs r l → Put l r ws t q → Put o at (vs ++ ws) t q
-joined {o} {vs} {l} {ws} {q} {at} {r} {t} a b = record {
-  place = omega (arith, length-append vs ws, a.place, b.place);
-  bytes = b.bytes ∙ ((λ i. sets (a.bytes i) (a.place i) ws) ∙ sets_append vs ws o at);
-}
-
-pub kept : {o vs l : List ℕ} {at r : ℕ} → Put o at vs r l → length l ≡ length o
-kept {o} {vs} {l} {at} {r} a = ap length a.bytes ∙ length-sets o at vs
-
--- what number::write gives where there is room
-pub put_number : (o l : List ℕ) (at r n : ℕ) → at + 5 ≤ length o → r ≡ next o at n → l ≡ written o at n → Put o at (leb128 n) r l
-put_number o l at r n h p q = record {
-  place = p ∙ rw (le-leb (at + 5) (length o) h);
-  bytes = q ∙ rw (le-leb (at + 5) (length o) h);
-}
 
 -- how many places a number takes
 
@@ -96,10 +67,6 @@ unfolding leb128
 length_short n h =
     let k : n / 128 / 128 < 128 = omega arith in
     one_more 3 n 2 (one_more 2 (n / 128) 1 (one_digit 2 (n / 128 / 128) k))
-
-pub bool_bit : (u : Bool) → bool_byte u ≡ bit u
-bool_bit true = refl
-bool_bit false = refl
 
 -- the ports that are left, from port i on
 

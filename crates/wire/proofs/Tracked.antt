@@ -1,6 +1,7 @@
 -- The ports of a mask, rising, are read back to the mask: the mask is the sum of its bits, the lowest first, and there are as many
 -- ports as bits are set. With that a full picture is read back, field by field.
 -- Assumes nothing.
+use Rattle.std.specs.Prelude.{None, Option, Some}
 use mathlib.Core.Path.{◌≡◌, refl, ap, sym, ◌∙◌}
 use mathlib.Core.Bool.{Bool, true, false, cond}
 use mathlib.Core.List.{List, [], ◌∷◌, ◌++◌, append-nil}
@@ -14,7 +15,7 @@ use borrow.Author.Tests.{le-leb, leb-true, ltb-true, eqb-true, eqb-false}
 use Rattle.power_policy_interface.specs.Capability.{consumer_flags_byte}
 use Rattle.power_policy_interface.proofs.Conjunction.{and_left, and_right}
 use Rattle.interface_display.specs.Providers.{bit_at, ones, len}
-use Rattle.interface_display.specs.declared.OptionAvailableConsumer.{OptionAvailableConsumer}
+use Rattle.interface_display.specs.declared.AvailableConsumer.{AvailableConsumer}
 use Rattle.interface_display.specs.declared.packet.Packet.{Packet}
 use Rattle.interface_display.specs.declared.packet.Picture.{Picture}
 use Rattle.interface_display.specs.declared.providers.Providers.{Providers}
@@ -119,11 +120,11 @@ tracked_back q h = tracked 16 q.mask (omega arith) h
 -- a full picture
 
 module _ (n : ℕ) (r : List ℕ) where
-  pub option_back : (c : OptionAvailableConsumer) → consumer_fits c ≡ true
+  pub option_back : (c : Option AvailableConsumer) → consumer_fits c ≡ true
       → then (field 1 (consumer_bytes c ++ r)) (λ b s. then (consumer_given b s) (picture_after n)) ≡ picture_after n c r
   unfolding consumer_bytes
-  option_back OptionAvailableConsumer.None h = rw (field_back 1 0 r refl)
-  option_back (OptionAvailableConsumer.Some c) h =
+  option_back None h = rw (field_back 1 0 r refl)
+  option_back (Some c) h =
       rw (field_back 1 1 (contract_bytes c.psu c.consumer_power_capability.capability (consumer_flags_byte c.consumer_power_capability.flags) ++ r) refl, consumer_back c.psu c.consumer_power_capability.capability r h c.consumer_power_capability.flags)
 
 pub picture_read_write : (p : Picture) → picture_fits p ≡ true → packet (picture_bytes p) ≡ parsed (Packet.Picture p) []

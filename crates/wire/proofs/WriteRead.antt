@@ -1,6 +1,7 @@
 -- What was read was written so: each field that is read stands at the front of its bytes as it is written, within its range, and the
 -- next is read from what follows.
 -- Assumes nothing.
+use Rattle.std.specs.Prelude.{None, Option, Some, Result, Ok, Err}
 use mathlib.Core.Path.{◌≡◌, refl, ap, sym, ◌∙◌}
 use mathlib.Core.Bool.{Bool, true, false}
 use mathlib.Core.List.{List, [], ◌∷◌, ◌++◌, append_assoc}
@@ -13,21 +14,18 @@ use borrow.Author.Tests.{le-leb, leb-true}
 use Rattle.power_policy_interface.specs.Capability.{bit, consumer_flags_byte, provider_flags_byte, consumer_flags_from, provider_flags_from, disconnect_from, disconnect_byte, capability_fits}
 use Rattle.power_policy_interface.specs.declared.capability.PowerCapability.{PowerCapability}
 use Rattle.power_policy_interface.specs.declared.capability.ConsumerFlags.{ConsumerFlags}
-use Rattle.power_policy_interface.specs.declared.capability.OptionConsumerFlags.{OptionConsumerFlags}
 use Rattle.power_policy_interface.specs.declared.capability.ProviderFlags.{ProviderFlags}
-use Rattle.power_policy_interface.specs.declared.capability.OptionProviderFlags.{OptionProviderFlags}
 use Rattle.power_policy_interface.specs.declared.capability.DisconnectFlags.{DisconnectFlags}
-use Rattle.power_policy_interface.specs.declared.capability.OptionDisconnectFlags.{OptionDisconnectFlags}
 use Rattle.power_policy_interface.specs.declared.service.UnconstrainedState.{UnconstrainedState}
 use Rattle.power_policy_interface.specs.declared.service.event.Event.{Event}
 use Rattle.power_policy_interface.proofs.OneByte.{consumer_write_read, provider_write_read, reason_write_read}
 use Rattle.interface_display.specs.declared.AvailableConsumer.{AvailableConsumer}
 use Rattle.wire.specs.Number.{leb128, read_number}
 use Rattle.wire.specs.Parser.{Parsed, refused, parsed, Parser, then, byte, holds, field, number, number_rest}
-use Rattle.wire.specs.Packet.{consumer_flags_given, provider_flags_given, reason_given, capability, Contract, contract, consumer, unconstrained, consumer_disconnected, consumer_connected, provider_disconnected, provider_connected, unconstrained_changed, notice_of, notice}
+use Rattle.wire.specs.declared.packet.Contract.{Contract}
+use Rattle.wire.specs.Packet.{consumer_flags_given, provider_flags_given, reason_given, capability, contract, consumer, unconstrained, consumer_disconnected, consumer_connected, provider_disconnected, provider_connected, unconstrained_changed, notice_of, notice}
 use Rattle.wire.specs.Bytes.{capability_bytes, contract_bytes, unconstrained_bytes, notice_bytes}
 use Rattle.wire.specs.WellFormed.{contract_fits, notice_fits}
-use Rattle.wire.specs.declared.number.ReadNumber.{ReadNumber}
 use Rattle.wire.proofs.Reading.{number_bounds}
 use Rattle.wire.proofs.OneNumber.{AllBytes, write_read}
 
@@ -73,9 +71,9 @@ pub number_told : (limit : ℕ) (s : List ℕ) (v : ℕ) (r : List ℕ) → AllB
 unfolding number
 number_told limit s v r h e = cases (read_number limit s) refl e
   where
-    cases : (x : ReadNumber) → read_number limit s ≡ x → number_rest s x ≡ parsed v r → (s ≡ leb128 v ++ r) × (v ≤ limit)
-    cases (ReadNumber.Refused n) p q = absurd (let z : ◌≡◌ {A = ℕ} 0 1 = cc in omega arith)
-    cases (ReadNumber.Number w u) p q =
+    cases : (x : Result (ℕ × ℕ) ℕ) → read_number limit s ≡ x → number_rest s x ≡ parsed v r → (s ≡ leb128 v ++ r) × (v ≤ limit)
+    cases (Err n) p q = absurd (let z : ◌≡◌ {A = ℕ} 0 1 = cc in omega arith)
+    cases (Ok (w, u)) p q =
         let f : w ≡ v = cc in
         let g : drop u s ≡ r = cc in
         (write_read limit s w u h p ∙ (λ i. leb128 (f i) ++ g i), rw f at (number_bounds limit s w u p).0)
@@ -144,23 +142,23 @@ contract_told s k r h e =
         let z : w ≡ r = cc in
         record { front = p ∙ (λ i. contract_bytes_of (d i) ++ z i); fit = ap contract_fits_of (sym d) ∙ rw (hp, hc) }
 
-consumer_flags_told : (o : OptionConsumerFlags) (s : List ℕ) (f : ConsumerFlags) (r : List ℕ) → consumer_flags_given o s ≡ parsed f r
-    → (o ≡ OptionConsumerFlags.Some f) × (s ≡ r)
-consumer_flags_told OptionConsumerFlags.None s f r e = absurd (let z : ◌≡◌ {A = ℕ} 0 1 = cc in omega arith)
-consumer_flags_told (OptionConsumerFlags.Some g) s f r e =
-    (ap OptionConsumerFlags.Some (let k : g ≡ f = cc in k), (let k : s ≡ r = cc in k))
+consumer_flags_told : (o : Option ConsumerFlags) (s : List ℕ) (f : ConsumerFlags) (r : List ℕ) → consumer_flags_given o s ≡ parsed f r
+    → (o ≡ Some f) × (s ≡ r)
+consumer_flags_told None s f r e = absurd (let z : ◌≡◌ {A = ℕ} 0 1 = cc in omega arith)
+consumer_flags_told (Some g) s f r e =
+    (ap Some (let k : g ≡ f = cc in k), (let k : s ≡ r = cc in k))
 
-provider_flags_told : (o : OptionProviderFlags) (s : List ℕ) (f : ProviderFlags) (r : List ℕ) → provider_flags_given o s ≡ parsed f r
-    → (o ≡ OptionProviderFlags.Some f) × (s ≡ r)
-provider_flags_told OptionProviderFlags.None s f r e = absurd (let z : ◌≡◌ {A = ℕ} 0 1 = cc in omega arith)
-provider_flags_told (OptionProviderFlags.Some g) s f r e =
-    (ap OptionProviderFlags.Some (let k : g ≡ f = cc in k), (let k : s ≡ r = cc in k))
+provider_flags_told : (o : Option ProviderFlags) (s : List ℕ) (f : ProviderFlags) (r : List ℕ) → provider_flags_given o s ≡ parsed f r
+    → (o ≡ Some f) × (s ≡ r)
+provider_flags_told None s f r e = absurd (let z : ◌≡◌ {A = ℕ} 0 1 = cc in omega arith)
+provider_flags_told (Some g) s f r e =
+    (ap Some (let k : g ≡ f = cc in k), (let k : s ≡ r = cc in k))
 
-reason_told : (o : OptionDisconnectFlags) (s : List ℕ) (f : DisconnectFlags) (r : List ℕ) → reason_given o s ≡ parsed f r
-    → (o ≡ OptionDisconnectFlags.Some f) × (s ≡ r)
-reason_told OptionDisconnectFlags.None s f r e = absurd (let z : ◌≡◌ {A = ℕ} 0 1 = cc in omega arith)
-reason_told (OptionDisconnectFlags.Some g) s f r e =
-    (ap OptionDisconnectFlags.Some (let k : g ≡ f = cc in k), (let k : s ≡ r = cc in k))
+reason_told : (o : Option DisconnectFlags) (s : List ℕ) (f : DisconnectFlags) (r : List ℕ) → reason_given o s ≡ parsed f r
+    → (o ≡ Some f) × (s ≡ r)
+reason_told None s f r e = absurd (let z : ◌≡◌ {A = ℕ} 0 1 = cc in omega arith)
+reason_told (Some g) s f r e =
+    (ap Some (let k : g ≡ f = cc in k), (let k : s ≡ r = cc in k))
 
 abbrev pub consumer_bytes_of : AvailableConsumer → List ℕ
 consumer_bytes_of a =

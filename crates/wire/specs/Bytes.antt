@@ -1,6 +1,6 @@
 -- What is written (PKT-8 to PKT-16): the bytes of each field in its place, at most 64 for fields within their ranges
 -- (proofs/Lengths.antt). It is total: a field out of its range is written as it stands.
-use Rattle.std.specs.Prelude.{ℕ, zero, suc, ◌/◌, ◌%◌, cond, List, [], ◌∷◌, ◌++◌, eqb}
+use Rattle.std.specs.Prelude.{ℕ, zero, suc, ◌/◌, ◌%◌, cond, List, [], ◌∷◌, ◌++◌, eqb, None, Option, Some}
 use Rattle.power_policy_interface.specs.Limits.{max_ports}
 use Rattle.power_policy_interface.specs.Capability.{bit, consumer_flags_byte, provider_flags_byte, disconnect_byte}
 use Rattle.power_policy_interface.specs.declared.capability.PowerCapability.{PowerCapability}
@@ -8,7 +8,7 @@ use Rattle.power_policy_interface.specs.declared.service.UnconstrainedState.{Unc
 use Rattle.power_policy_interface.specs.declared.service.event.Event.{Event}
 use Rattle.interface_display.specs.Notices.{listed, length_of}
 use Rattle.interface_display.specs.Providers.{len}
-use Rattle.interface_display.specs.declared.OptionAvailableConsumer.{OptionAvailableConsumer}
+use Rattle.interface_display.specs.declared.AvailableConsumer.{AvailableConsumer}
 use Rattle.interface_display.specs.declared.packet.EventPacket.{EventPacket}
 use Rattle.interface_display.specs.declared.packet.Packet.{Packet}
 use Rattle.interface_display.specs.declared.packet.Picture.{Picture}
@@ -39,9 +39,9 @@ unfoldable pub event_bytes : EventPacket → List ℕ
 event_bytes p =
     1 ∷ (leb128 p.number ++ (p.answer ∷ (leb128 p.orders ++ (length_of p.notices ∷ all_bytes (listed p.notices)))))
 
-unfoldable pub consumer_bytes : OptionAvailableConsumer → List ℕ
-consumer_bytes OptionAvailableConsumer.None = 0 ∷ []
-consumer_bytes (OptionAvailableConsumer.Some c) =
+unfoldable pub consumer_bytes : Option AvailableConsumer → List ℕ
+consumer_bytes None = 0 ∷ []
+consumer_bytes (Some c) =
     1 ∷ contract_bytes c.psu c.consumer_power_capability.capability (consumer_flags_byte c.consumer_power_capability.flags)
 
 -- n ports from p on: those whose bits are set in m, rising

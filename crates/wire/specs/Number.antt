@@ -1,7 +1,6 @@
 -- PKT-6: unsigned LEB128 in its shortest form: the base-128 digits, lowest first, with 128 added to all but the last.
-use Rattle.std.specs.Prelude.{ℕ, zero, suc, ◌+◌, ◌-◌, ◌*◌, ◌/◌, ◌%◌, cond, List, [], ◌∷◌, eqb, leb, ltb, length}
+use Rattle.std.specs.Prelude.{ℕ, zero, suc, ◌+◌, ◌-◌, ◌*◌, ◌/◌, ◌%◌, cond, List, [], ◌∷◌, eqb, leb, ltb, length, Result, Ok, Err}
 use Rattle.std.proofs.lemmas.List.Edits.{sets}
-use Rattle.wire.specs.declared.number.ReadNumber.{ReadNumber}
 
 -- at most k digits before the last
 abbrev pub digits : ℕ → ℕ → List ℕ
@@ -13,23 +12,23 @@ unfoldable pub leb128 : ℕ → List ℕ
 leb128 n = digits 4 n
 
 -- a digit before the digits of a number: that number is not 0, or the form is not the shortest
-abbrev pub digit_before : ℕ → ReadNumber → ReadNumber
-digit_before d (ReadNumber.Refused n) = ReadNumber.Refused n
-digit_before d (ReadNumber.Number v used) =
-    cond (eqb v 0) (ReadNumber.Refused 31) (ReadNumber.Number (d + v * 128) (suc used))
+abbrev pub digit_before : ℕ → Result (ℕ × ℕ) ℕ → Result (ℕ × ℕ) ℕ
+digit_before d (Err n) = Err n
+digit_before d (Ok (v, used)) =
+    cond (eqb v 0) (Err 31) (Ok (d + v * 128, suc used))
 
 -- a last byte is below 128; at most k bytes stand before it (REF-5)
-abbrev pub digits_read : ℕ → List ℕ → ReadNumber
-digits_read k [] = ReadNumber.Refused 30
-digits_read zero (b ∷ s) = cond (ltb b 128) (ReadNumber.Number b 1) (ReadNumber.Refused 31)
-digits_read (suc k) (b ∷ s) = cond (ltb b 128) (ReadNumber.Number b 1) (digit_before (b - 128) (digits_read k s))
+abbrev pub digits_read : ℕ → List ℕ → Result (ℕ × ℕ) ℕ
+digits_read k [] = Err 30
+digits_read zero (b ∷ s) = cond (ltb b 128) (Ok (b, 1)) (Err 31)
+digits_read (suc k) (b ∷ s) = cond (ltb b 128) (Ok (b, 1)) (digit_before (b - 128) (digits_read k s))
 
-abbrev pub within : ℕ → ReadNumber → ReadNumber
-within limit (ReadNumber.Refused n) = ReadNumber.Refused n
-within limit (ReadNumber.Number v used) = cond (leb v limit) (ReadNumber.Number v used) (ReadNumber.Refused 31)
+abbrev pub within : ℕ → Result (ℕ × ℕ) ℕ → Result (ℕ × ℕ) ℕ
+within limit (Err n) = Err n
+within limit (Ok (v, used)) = cond (leb v limit) (Ok (v, used)) (Err 31)
 
 -- REF-4: the limit is looked at after the last byte
-unfoldable pub read_number : ℕ → List ℕ → ReadNumber
+unfoldable pub read_number : ℕ → List ℕ → Result (ℕ × ℕ) ℕ
 read_number limit s = within limit (digits_read 4 s)
 
 -- stored from a place on, where five places are left from there; and the place after it

@@ -1,38 +1,35 @@
 -- Event packet (PKT-8) and full picture (PKT-16), field by field from the left.
-use Rattle.std.specs.Prelude.{ℕ, zero, suc, ◌+◌, ◌^◌, ◌&&◌, List, [], ◌∷◌, eqb, leb, ltb, get_or}
+use Rattle.std.specs.Prelude.{ℕ, zero, suc, ◌+◌, ◌^◌, ◌&&◌, List, [], ◌∷◌, eqb, leb, ltb, get_or, None, Option, Some}
 use Rattle.power_policy_interface.specs.Limits.{largest, max_ports, max_orders, max_notices}
 use Rattle.power_policy_interface.specs.Capability.{consumer_flags_from, provider_flags_from, disconnect_from}
 use Rattle.power_policy_interface.specs.declared.capability.PowerCapability.{PowerCapability}
 use Rattle.power_policy_interface.specs.declared.capability.ConsumerFlags.{ConsumerFlags}
-use Rattle.power_policy_interface.specs.declared.capability.OptionConsumerFlags.{OptionConsumerFlags}
 use Rattle.power_policy_interface.specs.declared.capability.ProviderFlags.{ProviderFlags}
-use Rattle.power_policy_interface.specs.declared.capability.OptionProviderFlags.{OptionProviderFlags}
 use Rattle.power_policy_interface.specs.declared.capability.DisconnectFlags.{DisconnectFlags}
-use Rattle.power_policy_interface.specs.declared.capability.OptionDisconnectFlags.{OptionDisconnectFlags}
 use Rattle.power_policy_interface.specs.declared.service.UnconstrainedState.{UnconstrainedState}
 use Rattle.power_policy_interface.specs.declared.service.event.Event.{Event}
 use Rattle.interface_display.specs.Notices.{empty, pushed}
 use Rattle.interface_display.specs.declared.AvailableConsumer.{AvailableConsumer}
-use Rattle.interface_display.specs.declared.OptionAvailableConsumer.{OptionAvailableConsumer}
 use Rattle.interface_display.specs.declared.notices.Notices.{Notices}
 use Rattle.interface_display.specs.declared.packet.Packet.{Packet}
 use Rattle.interface_display.specs.Providers.{max_connected_providers}
 use Rattle.interface_display.specs.declared.providers.Providers.{Providers}
+use Rattle.wire.specs.declared.packet.Contract.{Contract}
 use Rattle.wire.specs.Parser.{Parser, ◌>>=◌, ◌>>◌, done, wrong, holds, byte, end, field, number}
 
 -- a byte that stands for a value, or for none
 
-abbrev pub consumer_flags_given : OptionConsumerFlags → Parser ConsumerFlags
-consumer_flags_given OptionConsumerFlags.None = wrong
-consumer_flags_given (OptionConsumerFlags.Some f) = done f
+abbrev pub consumer_flags_given : Option ConsumerFlags → Parser ConsumerFlags
+consumer_flags_given None = wrong
+consumer_flags_given (Some f) = done f
 
-abbrev pub provider_flags_given : OptionProviderFlags → Parser ProviderFlags
-provider_flags_given OptionProviderFlags.None = wrong
-provider_flags_given (OptionProviderFlags.Some f) = done f
+abbrev pub provider_flags_given : Option ProviderFlags → Parser ProviderFlags
+provider_flags_given None = wrong
+provider_flags_given (Some f) = done f
 
-abbrev pub reason_given : OptionDisconnectFlags → Parser DisconnectFlags
-reason_given OptionDisconnectFlags.None = wrong
-reason_given (OptionDisconnectFlags.Some f) = done f
+abbrev pub reason_given : Option DisconnectFlags → Parser DisconnectFlags
+reason_given None = wrong
+reason_given (Some f) = done f
 
 -- mV and mA
 unfoldable pub capability : Parser PowerCapability
@@ -42,11 +39,6 @@ capability = do
   done (record { voltage_mv = mv; current_ma = ma })
 
 -- port, mV, mA, and the flags as a byte
-pub record Contract : Type 0 where
-  pub port : ℕ
-  pub power : PowerCapability
-  pub flags : ℕ
-
 unfoldable pub contract : Parser Contract
 contract = do
   port ← field 15
@@ -156,15 +148,15 @@ event = do
   event_after n
 
 -- after a presence byte
-abbrev pub consumer_given : ℕ → Parser OptionAvailableConsumer
-consumer_given zero = done OptionAvailableConsumer.None
+abbrev pub consumer_given : ℕ → Parser (Option AvailableConsumer)
+consumer_given zero = done None
 consumer_given (suc n) = do
   c ← consumer
-  done (OptionAvailableConsumer.Some c)
+  done (Some c)
 
 -- PKT-16, a full picture: after its consumer, after its kind
 
-unfoldable pub picture_after : ℕ → OptionAvailableConsumer → Parser Packet
+unfoldable pub picture_after : ℕ → Option AvailableConsumer → Parser Packet
 picture_after n c = do
   u ← unconstrained
   count ← field max_connected_providers

@@ -1,8 +1,7 @@
 -- REF-3: a reading from the left: a refusal's number, or a value
 -- and the rest of the bytes. What is met first is what is given.
-use Rattle.std.specs.Prelude.{ℕ, Bool, cond, List, [], ◌∷◌, leb, drop}
+use Rattle.std.specs.Prelude.{ℕ, Bool, cond, List, [], ◌∷◌, leb, drop, Result, Ok, Err}
 use Rattle.wire.specs.Number.{read_number}
-use Rattle.wire.specs.declared.number.ReadNumber.{ReadNumber}
 
 pub data Parsed (A : Type 0) : Type 0 where
   refused : ℕ → Parsed A
@@ -50,9 +49,9 @@ field most = do
   holds (leb b most)
   done b
 
-abbrev pub number_rest : List ℕ → ReadNumber → Parsed ℕ
-number_rest s (ReadNumber.Refused n) = refused n
-number_rest s (ReadNumber.Number v used) = parsed v (drop used s)
+abbrev pub number_rest : List ℕ → Result (ℕ × ℕ) ℕ → Parsed ℕ
+number_rest s (Err n) = refused n
+number_rest s (Ok (v, used)) = parsed v (drop used s)
 
 -- REF-30 and REF-31
 unfoldable pub number : ℕ → Parser ℕ

@@ -1,13 +1,13 @@
 -- The packets that the reader accepts: each field within what is laid out (PKT-8
 -- to PKT-16), and notices in their one form. A test, so that it can be decided.
-use Rattle.std.specs.Prelude.{ℕ, Bool, true, ◌&&◌, List, [], ◌∷◌, leb, ltb}
+use Rattle.std.specs.Prelude.{ℕ, Bool, true, ◌&&◌, List, [], ◌∷◌, leb, ltb, None, Option, Some}
 use Rattle.power_policy_interface.specs.Limits.{largest, max_ports, max_orders}
 use Rattle.power_policy_interface.specs.Capability.{capability_fits}
 use Rattle.power_policy_interface.specs.declared.capability.PowerCapability.{PowerCapability}
 use Rattle.power_policy_interface.specs.declared.service.event.Event.{Event}
 use Rattle.interface_display.specs.Notices.{listed, padded}
 use Rattle.interface_display.specs.Providers.{len, max_connected_providers}
-use Rattle.interface_display.specs.declared.OptionAvailableConsumer.{OptionAvailableConsumer}
+use Rattle.interface_display.specs.declared.AvailableConsumer.{AvailableConsumer}
 use Rattle.interface_display.specs.declared.packet.EventPacket.{EventPacket}
 use Rattle.interface_display.specs.declared.packet.Packet.{Packet}
 use Rattle.interface_display.specs.declared.packet.Picture.{Picture}
@@ -32,9 +32,9 @@ event_fits p =
     && (leb p.number largest
     && (leb p.answer 10 && (leb p.orders max_orders && (padded p.notices && notices_fit (listed p.notices)))))
 
-abbrev pub consumer_fits : OptionAvailableConsumer → Bool
-consumer_fits OptionAvailableConsumer.None = true
-consumer_fits (OptionAvailableConsumer.Some c) = contract_fits c.psu c.consumer_power_capability.capability
+abbrev pub consumer_fits : Option AvailableConsumer → Bool
+consumer_fits None = true
+consumer_fits (Some c) = contract_fits c.psu c.consumer_power_capability.capability
 
 unfoldable pub picture_fits : Picture → Bool
 picture_fits p =

@@ -1,14 +1,9 @@
 // Unsigned LEB128 in its shortest form: groups of seven bits, lowest first, the top bit set on all but the last byte.
-ghost use Rattle.std.specs.Prelude.{◌≡◌, ◌<◌, length};
-ghost use Rattle.wire.specs.Number.{leb128, read_number, within, written, next};
+ghost use Rattle.std.specs.Prelude.{◌≡◌, ◌≤◌, length, IfOk};
+ghost use Rattle.power_policy_interface.specs.Refusal.{numbered};
+ghost use Rattle.wire.specs.Number.{leb128, read_number, written, next};
 
-// What reading a number finds: 30 cut short, 31 not shortest, over its limit or five bytes with no end; or the number and how
-// many bytes it takes.
-#[derive(Clone, Copy)]
-pub enum ReadNumber {
-    Refused(u8),
-    Number { value: u32, used: usize },
-}
+use power_policy_interface::refusal::Refusal;
 
 // How many bytes a number takes, 1 to 5.
 pub fn length(n: u32) -> usize
@@ -29,86 +24,31 @@ pub fn length(n: u32) -> usize
     5
 }
 
-// A byte as a wide number.
-fn wide(b: u8) -> u64
-    ensures { (result ≡ b) × (result < 256) }
+// The number at the front of the bytes and how many bytes it takes; or 30 cut short, 31 not shortest, over its limit or five bytes
+// with no end.
+pub fn read(s: &[u8], limit: u32) -> Result<(u32, usize), Refusal>
+    ensures read { numbered result ≡ read_number limit s.now }
+    ensures within { IfOk result (λ r. (r.0 ≤ limit) × (r.1 ≤ length s.now)) }
 {
-    b as u64
-}
-
-// A number whose last byte was read: refused over the limit.
-fn ended(value: u64, used: usize, limit: u32) -> ReadNumber
-    ensures { result ≡ within limit (ReadNumber.Number value used) }
-{
-    if value <= (limit as u64) {
-        return ReadNumber::Number {
-            value: value as u32,
-            used,
+    let mut value: u64 = 0;
+    let mut scale: u64 = 1;
+    for i in 0..5 {
+        let Some(b) = s.get(i) else {
+            return Err(Refusal::CutShort);
         };
-    }
-    ReadNumber::Refused(31)
-}
-
-// The number at the front of the bytes.
-pub fn read(s: &[u8], limit: u32) -> ReadNumber
-    ensures { result ≡ read_number limit s.now }
-{
-    if s.len() == 0 {
-        return ReadNumber::Refused(30);
-    }
-    let a = wide(s[0]);
-    if a < 128 {
-        return ended(a, 1, limit);
-    }
-    if s.len() == 1 {
-        return ReadNumber::Refused(30);
-    }
-    let b = wide(s[1]);
-    if b < 128 {
-        if b == 0 {
-            return ReadNumber::Refused(31);
+        value += u64::from(*b % 128) * scale;
+        if *b < 128 {
+            if *b == 0 && 0 < i {
+                return Err(Refusal::Number);
+            }
+            if u64::from(limit) < value {
+                return Err(Refusal::Number);
+            }
+            return Ok((value as u32, i + 1));
         }
-        return ended(a - 128 + b * 128, 2, limit);
+        scale *= 128;
     }
-    if s.len() == 2 {
-        return ReadNumber::Refused(30);
-    }
-    let d = wide(s[2]);
-    if d < 128 {
-        if d == 0 {
-            return ReadNumber::Refused(31);
-        }
-        return ended(a - 128 + (b - 128 + d * 128) * 128, 3, limit);
-    }
-    if s.len() == 3 {
-        return ReadNumber::Refused(30);
-    }
-    let e = wide(s[3]);
-    if e < 128 {
-        if e == 0 {
-            return ReadNumber::Refused(31);
-        }
-        return ended(
-            a - 128 + (b - 128 + (d - 128 + e * 128) * 128) * 128,
-            4,
-            limit,
-        );
-    }
-    if s.len() == 4 {
-        return ReadNumber::Refused(30);
-    }
-    let f = wide(s[4]);
-    if f < 128 {
-        if f == 0 {
-            return ReadNumber::Refused(31);
-        }
-        return ended(
-            a - 128 + (b - 128 + (d - 128 + (e - 128 + f * 128) * 128) * 128) * 128,
-            5,
-            limit,
-        );
-    }
-    ReadNumber::Refused(31)
+    Err(Refusal::Number)
 }
 
 // Writes a number from a place on and returns the place after it; where fewer than five places are left, writes nothing and

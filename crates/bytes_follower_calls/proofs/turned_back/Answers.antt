@@ -1,11 +1,12 @@
--- What is shown does not matter, only that the image is one.
-use mathlib.Core.Path.{refl, ◌∙◌}
+-- What is shown does not matter, only that something is.
+use mathlib.Core.Path.{sym, ◌∙◌}
+use Rattle.power_policy_interface.specs.Refusal.{refusal_number}
 use Rattle.abstract_calls.specs.Numbers.{refused_number}
-use Rattle.bytes_follower_calls.proofs.Read.{by_picture}
+use Rattle.bytes_follower_image.specs.Image.{follower_from}
+use Rattle.bytes_follower_calls.proofs.Read.{of_any}
 use Rattle.bytes_follower_calls.proofs.turned_back.Goals as goal
 
-pub returns-in-Picture : goal.returns-in-Picture
-returns-in-Picture c =
-    let x = c.args in
-    c.refused-in-Picture.ensures
-    ∙ by_picture x.image.now _ (λ f. refused_number x.number) _ (refused_number x.number) c.in-Picture.is c.read_shown.ensures.shown_by (λ h i. refl)
+pub returns-in-Some : goal.returns-in-Some
+returns-in-Some c =
+    c.refused-in-Some.ensures
+    ∙ of_any (follower_from c.args.image.now) _ (refused_number (refusal_number c.args.refusal)) (sym c.in-Some.is ∙ c.read_shown.ensures.value)

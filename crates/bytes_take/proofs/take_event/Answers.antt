@@ -11,15 +11,15 @@ use Rattle.bytes_take.proofs.Level.{beyond}
 use Rattle.bytes_take.proofs.Slot.{slot_taken}
 use Rattle.bytes_take.proofs.take_event.Goals as goal
 
-pub returns-then-number-n : goal.returns-then-number-n
-returns-then-number-n c = λ h i.
+pub returns-then-e-s : goal.returns-then-e-s
+returns-then-e-s c = λ h i.
     let x = c.args in
-    i.bytes ∙ sym (ap follower_bytes (event_old x.s h x.e c.if-number-n.true))
+    i.bytes ∙ sym (ap follower_bytes (event_old x.s h x.e c.if-e-s.true))
 
 pub returns-then-ahead-gt-WINDOW : goal.returns-then-ahead-gt-WINDOW
 returns-then-ahead-gt-WINDOW c = λ h i.
     let x = c.args in
-    let l : x.s.number + 8 < x.e.number = omega (arith, c.if-ahead-gt-WINDOW.true, c.if-number-n.false) in
+    let l : x.s.number + 8 < x.e.number = omega (arith, c.if-ahead-gt-WINDOW.true, c.if-e-s.false) in
     c.write_lost.ensures
     ∙ (sets_all (lost_bytes x.e.number) x.image.now (sym c.requires)
     ∙ sym (ap follower_bytes (beyond x.s h x.e (fits (showing x.s h) i.fits).formed.1 l)))
@@ -29,7 +29,7 @@ returns c = λ h i.
     let x = c.args in
     let k : ℕ = x.e.number - x.s.number - 2 in
     let a : 17 + 32 * k ≡ 17 + k * 32 = omega arith in
-    let l = c.if-number-n.false in
+    let l = c.if-e-s.false in
     let m = c.if-ahead-gt-WINDOW.false in
     let o = c.if-ahead-eq1.false in
     rw a at c.hold.ensures ∙ slot_taken x.image.now x.s h x.e k i (omega (arith, m)) (omega (arith, l, m, o))

@@ -6,9 +6,9 @@ use Rattle.bytes_follower_image.specs.Image.{follower_bytes}
 use Rattle.bytes_take.proofs.Images.{lost_shown}
 use Rattle.bytes_take.proofs.take_lost.Goals as goal
 
-pub returns-else-v-floor : goal.returns-else-v-floor
-returns-else-v-floor c = λ e.
+pub returns-then-floor-v : goal.returns-then-floor-v
+returns-then-floor-v c = λ e.
     let x = c.args in
     c.put_shown.ensures
     ∙ (lost_shown x.image.now x.floor c.in-Picture.v.number c.in-Picture.v.display e
-    ∙ sym (ap follower_bytes (ap (taken (lost x.floor)) c.in-Picture.is ∙ picture_shown x.floor c.in-Picture.v c.if-v-floor.false)))
+    ∙ sym (ap follower_bytes (ap (taken (lost x.floor)) c.in-Picture.is ∙ picture_shown x.floor c.in-Picture.v c.if-floor-v.true)))

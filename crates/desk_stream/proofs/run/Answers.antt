@@ -4,4 +4,4 @@ use Rattle.desk_stream.proofs.run.Goals as goal
 
 pub returns-clause-whole : goal.returns-clause-whole
 returns-clause-whole g c =
-    λ e. over_whole c.args.desk c.turns.result.desk c.args.sink _ _ _ _ (rw e at c.turns.ensures.over)
+    λ e. over_whole c.args.desk _ c.args.sink _ _ _ _ (rw e at c.turns-end.ensures.over)

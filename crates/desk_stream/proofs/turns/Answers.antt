@@ -1,44 +1,54 @@
 -- Each turn is a read of the run.
-use Rattle.std.proofs.Common.{take, arith, refl, [], ◌∙◌}
+use Rattle.std.proofs.Common.{◌≡◌, arith, refl, [], ◌∙◌, sym, Ok}
 use Rattle.desk_stream.specs.declared.End.{End}
 use Rattle.desk_stream.proofs.Takes.{stands_on, stands_off, stands_end}
-use Rattle.desk_stream.proofs.Known.{over_first, over_on, over_off}
+use Rattle.desk_stream.proofs.Known.{over_first, over_on, over_off, over_end}
 use Rattle.desk_stream.proofs.turns.Goals as goal
 
-pub loop-rest-init : goal.loop-rest-init
-loop-rest-init g c = (omega arith, refl, ([], refl), over_first c.args.desk c.args.sink _ _)
+pub read_on-requires : goal.read_on-requires
+read_on-requires g c = omega (arith, c.loop.invariant.short)
 
-pub loop-rest-preserved : goal.loop-rest-preserved
-loop-rest-preserved g c =
-    let x = c.args in
-    let l = c.loop-rest in
-    let r = c.read_on-turn in
-    let t = rw c.in-On.is at r.ensures.took.2 in
-    let p = rw c.in-On.is at r.ensures.passes in (
-      r.ensures.took.0,
-      r.ensures.took.1 ∙ l.invariant.1,
-      stands_on x.desk l.desk r.result.desk x.sink (take l.have l.input) (take r.result.have r.new.input) l.invariant.2 t,
-      over_on x.desk l.desk x.sink _ _ _ _ _ _ (take l.have l.input) l.invariant.3 r.result.desk (take r.result.have r.new.input) p,
-    )
+pub loop-init : goal.loop-init
+loop-init g c =
+    let e = c.requires in
+    record {
+      sink = refl;
+      short = rw e (omega arith);
+      stands = rw e ([], refl);
+      over = rw e (over_first c.args.stream.now.desk c.args.stream.now.lines.sink _ _);
+    }
 
-pub returns-in-Off-clause-value : goal.returns-in-Off-clause-value
-returns-in-Off-clause-value g c =
-    let x = c.args in
-    let l = c.loop-rest in
-    let r = c.read_on-turn in
-    let t = rw c.in-Off.is at r.ensures.took.2 in
-    (stands_off x.desk l.desk r.result.desk x.sink (take l.have l.input) (take r.result.have r.new.input) c.in-Off.end l.invariant.2 t, t.0)
+pub loop-preserved : goal.loop-preserved
+loop-preserved g c =
+    let d = c.args.stream.now.desk in
+    let k = c.args.stream.now.lines.sink in
+    let i = c.loop.invariant in
+    let r = c.read_on.new.self in
+    let ok : c.read_on.result ≡ Ok tt = c.in_default.is in
+    let t = rw (i.sink, ok) at c.read_on.ensures.took in
+    let p = rw (i.sink, ok) at c.read_on.ensures.passes in
+    record {
+      sink = c.read_on.ensures.same ∙ i.sink;
+      short = t.0;
+      stands = stands_on d c.loop.stream.desk r.desk k c.loop.stream.input r.input i.stands t;
+      over = over_on d c.loop.stream.desk k _ _ _ _ _ _ c.loop.stream.input i.over r.desk r.input p;
+    }
 
-pub returns-in-Off-clause-over : goal.returns-in-Off-clause-over
-returns-in-Off-clause-over g c =
-    let x = c.args in
-    let l = c.loop-rest in
-    let r = c.read_on-turn in
-    let p = rw c.in-Off.is at r.ensures.passes in
-    over_off x.desk l.desk x.sink _ _ _ _ _ _ (take l.have l.input) l.invariant.3 r.result.desk c.in-Off.end p
+pub returns-in-Err-clause-value : goal.returns-in-Err-clause-value
+returns-in-Err-clause-value g c =
+    let d = c.args.stream.now.desk in
+    let k = c.args.stream.now.lines.sink in
+    let i = c.loop.invariant in
+    let r = c.read_on.new.self in
+    let t = rw (i.sink, c.in-Err.is) at c.read_on.ensures.took in
+    (stands_off d c.loop.stream.desk r.desk k c.loop.stream.input r.input c.in-Err.end i.stands t, t.0)
+
+pub returns-in-Err-clause-over : goal.returns-in-Err-clause-over
+returns-in-Err-clause-over g c =
+    let i = c.loop.invariant in
+    let p = rw (i.sink, c.in-Err.is) at c.read_on.ensures.passes in
+    over_off c.args.stream.now.desk c.loop.stream.desk c.args.stream.now.lines.sink _ _ _ _ _ _ c.loop.stream.input i.over c.read_on.new.self.desk c.in-Err.end p
 
 pub returns-clause-value : goal.returns-clause-value
 returns-clause-value g c =
-    let x = c.args in
-    let l = c.loop-rest in
-    (stands_end x.desk l.desk (take l.have l.input) End.Unread l.invariant.2, tt)
+    (stands_end c.args.stream.now.desk c.loop.stream.desk c.loop.stream.input End.Unread c.loop.invariant.stands, tt)

@@ -2,7 +2,7 @@
 use crate::capability::DisconnectFlags;
 
 // Data for an event broadcast from a PSU.
-#[derive(Clone, Copy)]
+#[derive(Clone, Copy, PartialEq, Eq)]
 pub enum EventData {
     // A device has attached.
     Attached,
@@ -17,7 +17,7 @@ pub enum EventData {
 }
 
 // Event broadcast from a PSU.
-#[derive(Clone, Copy)]
+#[derive(Clone, Copy, PartialEq, Eq)]
 pub struct Event {
     // Number of the port that sent it.
     pub port: u8,

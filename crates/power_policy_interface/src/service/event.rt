@@ -6,7 +6,7 @@ use crate::capability::{ConsumerPowerCapability, DisconnectFlags, ProviderPowerC
 use crate::service::UnconstrainedState;
 
 // An event with the number of its port.
-#[derive(Clone, Copy)]
+#[derive(Clone, Copy, PartialEq, Eq)]
 pub enum Event {
     // Consumer disconnected.
     ConsumerDisconnected(u8, DisconnectFlags),
@@ -21,7 +21,7 @@ pub enum Event {
 }
 
 // An event without its port, for receivers that do not need to know it.
-#[derive(Clone, Copy)]
+#[derive(Clone, Copy, PartialEq, Eq)]
 pub enum EventData {
     ConsumerDisconnected(DisconnectFlags),
     ConsumerConnected(ConsumerPowerCapability),
@@ -30,12 +30,12 @@ pub enum EventData {
     Unconstrained(UnconstrainedState),
 }
 
-impl Event {
-    // The event without its port (From<Event> for EventData).
-    pub fn data(self) -> EventData
-        ensures { result ≡ data_of self }
-    {
-        match self {
+impl From<Event> for EventData {
+    ghost from_gives = { λ event bare. bare ≡ data_of event };
+
+    // The event without its port.
+    fn from(event: Event) -> EventData {
+        match event {
             Event::ConsumerDisconnected(_, disconnect) => EventData::ConsumerDisconnected(
                 disconnect,
             ),

@@ -5,5 +5,5 @@ use Rattle.sheet.proofs.page_of.Goals as goal
 
 pub returns : goal.returns
 returns c =
-    let e = rw c.of.ensures at c.write.ensures.1 in
+    let e = rw c.of.ensures at c.write.ensures.written in
     e ∙ filled c.args.desk.follower c.args.out.now c.told-out

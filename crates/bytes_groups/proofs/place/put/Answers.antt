@@ -1,14 +1,19 @@
--- What is left to store completes what was stored; after as many as fit, nothing is left.
-use mathlib.Core.Path.{sym, ◌∙◌}
-use Prim.Native.Nat.{◌-◌, ◌≤◌, min}
+-- As many bytes as there are places are stored as a range; where there are none, nothing is.
+use mathlib.Core.Path.{◌≡◌, sym}
+use Prim.Native.Nat.{◌+◌, ◌-◌}
+use native.Mathlib.Nat.{add-zero}
 use native.Mathlib.Omega.{arith}
-use lib.ListN.{length}
-use Rattle.bytes_groups.proofs.Places.{sets_rest}
+use Rattle.bytes_groups.proofs.Places.{sets_range, sets_rest}
 use Rattle.bytes_groups.proofs.place.put.Goals as goal
 
-pub returns : goal.returns
-returns c =
-    let l = c.loop-i in
+pub returns-then-n-gt0 : goal.returns-then-n-gt0
+returns-then-n-gt0 c =
     let a = c.args in
-    let h : min (length a.s.now) (length l.out - a.at) ≤ l.i = omega (arith, l.invariant.0, l.invariant.3, c.loop-i-test.false) in
-    sym (sets_rest a.s.now l.out a.at l.i h) ∙ l.invariant.2
+    let n = c.room-n.result in
+    let k : (a.at + n) - a.at ≡ n = omega arith in
+    rw (k, c.copy_from_slice.ensures.after) (sets_range a.s.now a.out.now a.at n c.room-n.ensures (omega arith))
+
+pub returns-else-n-gt0 : goal.returns-else-n-gt0
+returns-else-n-gt0 c =
+    let a = c.args in
+    sym (rw add-zero at (sets_rest a.s.now a.out.now a.at 0 (omega arith)))

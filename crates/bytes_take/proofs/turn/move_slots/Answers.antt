@@ -1,16 +1,15 @@
 -- The bytes are moved, then the last are cleared.
-use mathlib.Core.Path.{ap, ◌∙◌}
-use mathlib.Core.List.{List}
 use Prim.Native.Nat.{ℕ, ◌-◌}
-use lib.ListN.{replicate}
-use lib.Seq.{sets}
+use native.Mathlib.Omega.{arith}
+use lib.ListN.{length, take, drop, length-take, length-drop}
 use Rattle.bytes_take.proofs.Moved.{moved_cleared}
 use Rattle.bytes_take.proofs.turn.move_slots.Goals as goal
 
 pub returns : goal.returns
 returns c =
     let x = c.args in
-    let p = c.requires in
-    c.clear.ensures
-    ∙ (ap (λ (l : List ℕ). sets l (241 - x.by) (replicate (241 - (241 - x.by)) 0)) c.move_front.ensures
-    ∙ moved_cleared x.image.now x.by p.0 p.1)
+    let l = c.copy_within.new.self in
+    let k : ℕ = length l - (241 - x.by) in
+    let n = length-take k (drop (241 - x.by) l) in
+    moved_cleared x.image.now x.by c.requires.0 c.requires.1 l c.fill.new.self (length (take k (drop (241 - x.by) l))) c.copy_within.ensures.after
+    (c.fill.ensures.after (λ y h. h)) (omega (arith, n, length-drop (241 - x.by) l, c.copy_within.ensures.len, c.requires.0, c.requires.1))

@@ -1,60 +1,49 @@
--- After the turns down to port i the text has the ports from i on.
-use mathlib.Core.Path.{◌≡◌, refl, sym, ap, ◌∙◌, subst}
-use mathlib.Core.Bool.{true, false}
-use mathlib.Core.List.{List}
-use Prim.Native.Nat.{ℕ, ◌-◌, ◌≤◌, ◌<◌}
-use native.Mathlib.Omega.{arith}
-use lib.Dec.{ltb}
+-- A port more, or none; at the end all of them.
+use Rattle.std.proofs.Common.{◌≡◌, ◌<◌, ◌≤◌, ◌-◌, List, ℕ, sym, ◌∙◌, ap, subst, true, false, arith}
 use borrow.Author.Tests.{eqb-true, eqb-false, lt-ltb}
+use lib.Dec.{ltb}
 use Rattle.power_policy_interface.proofs.Conjunction.{and_right}
 use Rattle.interface_display.specs.Providers.{contains}
-use Rattle.interface_display.specs.declared.providers.Providers.{Providers}
 use Rattle.wire.specs.Bytes.{ports_bytes}
-use Rattle.abstract_page.specs.Text.{right}
 use Rattle.abstract_page.specs.Page.{commas}
 use Rattle.desk_report.specs.Page.{Holds}
 use Rattle.desk_report.proofs.Columns.{ports_at, port_there, port_absent, all_ports, none_there, some_there}
 use Rattle.desk_report.proofs.page.ports_columns.Goals as goal
 
--- at the end all of them
-ended : (t : Providers) (text : List ℕ) (from i : ℕ) → i ≤ 0 → Holds text from (commas (ports_at t.mask i)) → Holds text from (commas (ports_bytes t.mask))
-ended t text from i h k =
-    let z : i ≡ 0 = omega arith in
-    subst (λ (s : List ℕ). Holds text from (commas s)) (ap (ports_at t.mask) z ∙ all_ports t.mask) k
+pub loop-port-preserved-then-contains : goal.loop-port-preserved-then-contains
+loop-port-preserved-then-contains c =
+    let m = c.args.tracked.mask in
+    let l = c.loop-port in
+    let p : 0 < l.port = omega arith in
+    let q : l.port ≤ 16 = omega arith in
+    let t : contains c.args.tracked (l.port - 1) ≡ true = sym c.contains.ensures ∙ c.if-contains.true in
+    let b = eqb-true _ 1 (and_right (ltb (l.port - 1) 16) _ t) in
+    subst (λ (s : List ℕ). Holds c.push_port.new.columns.bytes c.push_port.new.columns.from (commas s)) (sym (port_there m l.port p q b))
+    (c.push_port.ensures (ports_at m l.port) l.invariant)
 
-pub loop-i-init : goal.loop-i-init
-unfolding right
-loop-i-init c = (omega arith, omega arith, record { text = refl; place = refl })
+pub loop-port-preserved : goal.loop-port-preserved
+loop-port-preserved c =
+    let m = c.args.tracked.mask in
+    let l = c.loop-port in
+    let p : 0 < l.port = omega arith in
+    let q : l.port ≤ 16 = omega arith in
+    let t : contains c.args.tracked (l.port - 1) ≡ false = sym c.contains.ensures ∙ c.if-contains.false in
+    let h : l.port - 1 < 16 = omega arith in
+    let b = eqb-false _ 1 (rw (lt-ltb (l.port - 1) 16 h) at t) in
+    subst (λ (s : List ℕ). Holds l.columns.bytes l.columns.from (commas s)) (sym (port_absent m l.port p q b)) l.invariant
 
-pub loop-i-preserved-then-contains : goal.loop-i-preserved-then-contains
-loop-i-preserved-then-contains c =
-    let x = c.args in
-    let l = c.loop-i in
-    let p : 0 < l.i = c.loop-i-test.true in
-    let t : contains x.tracked (l.i - 1) ≡ true = sym c.contains.ensures ∙ c.if-contains.true in
-    let b = eqb-true _ 1 (and_right (ltb (l.i - 1) 16) _ t) in
-    let w = c.with_port-from in
-    (omega arith, w.ensures.0, subst (λ (s : List ℕ). Holds w.new.text w.result (commas s)) (sym (port_there x.tracked.mask l.i p l.invariant.0 b)) (w.ensures.1 (ports_at x.tracked.mask l.i) l.invariant.2))
-
-pub loop-i-preserved : goal.loop-i-preserved
-loop-i-preserved c =
-    let x = c.args in
-    let l = c.loop-i in
-    let p : 0 < l.i = c.loop-i-test.true in
-    let t : contains x.tracked (l.i - 1) ≡ false = sym c.contains.ensures ∙ c.if-contains.false in
-    let h : l.i - 1 < 16 = omega (arith, l.invariant.0) in
-    let b = eqb-false _ 1 (rw (lt-ltb (l.i - 1) 16 h) at t) in
-    (omega arith, l.invariant.1, subst (λ (s : List ℕ). Holds l.text l.from (commas s)) (sym (port_absent x.tracked.mask l.i p l.invariant.0 b)) l.invariant.2)
-
-pub returns-then-from-eq20 : goal.returns-then-from-eq20
-returns-then-from-eq20 c =
-    let x = c.args in
-    let l = c.loop-i in
-    c.absent_columns.ensures
-    ∙ none_there l.text l.from (ports_bytes x.tracked.mask) (ended x.tracked l.text l.from l.i c.loop-i-test.false l.invariant.2) c.if-from-eq20.true
+pub returns-then-is_empty : goal.returns-then-is_empty
+returns-then-is_empty c =
+    let l = c.loop-port in
+    let z : l.port ≡ 0 = omega arith in
+    let h = subst (λ (s : List ℕ). Holds l.columns.bytes l.columns.from (commas s)) (ap (ports_at c.args.tracked.mask) z ∙ all_ports c.args.tracked.mask) l.invariant in
+    let e = eqb-true l.columns.from 20 (sym c.is_empty.ensures ∙ c.if-is_empty.true) in
+    c.of.ensures.text ∙ none_there l.columns.bytes l.columns.from (ports_bytes c.args.tracked.mask) h e
 
 pub returns : goal.returns
 returns c =
-    let x = c.args in
-    let l = c.loop-i in
-    some_there l.text l.from (ports_bytes x.tracked.mask) (ended x.tracked l.text l.from l.i c.loop-i-test.false l.invariant.2) c.if-from-eq20.false
+    let l = c.loop-port in
+    let z : l.port ≡ 0 = omega arith in
+    let h = subst (λ (s : List ℕ). Holds l.columns.bytes l.columns.from (commas s)) (ap (ports_at c.args.tracked.mask) z ∙ all_ports c.args.tracked.mask) l.invariant in
+    let e = eqb-false l.columns.from 20 (sym c.is_empty.ensures ∙ c.if-is_empty.false) in
+    some_there l.columns.bytes l.columns.from (ports_bytes c.args.tracked.mask) h e

@@ -1,16 +1,16 @@
--- One digit, or two.
-use Rattle.desk_report.proofs.Columns.{port_one, port_two}
+-- Nothing stands there yet, or the comma comes first.
+use Rattle.std.proofs.Common.{◌∷◌, sym, ◌∙◌}
+use borrow.Author.Tests.{eqb-true, eqb-false}
+use Rattle.abstract_page.specs.Text.{comma}
+use Rattle.desk_report.proofs.Columns.{first_port, more_ports}
 use Rattle.desk_report.proofs.page.push_port.Goals as goal
 
-pub returns-then-port-lt10 : goal.returns-then-port-lt10
-returns-then-port-lt10 c =
-    let x = c.args in
-    let p = c.push-last in
-    (p.ensures.0, λ s h. rw (port_one x.port c.if-port-lt10.true) (p.ensures.1 s h))
+pub returns-then-is_empty : goal.returns-then-is_empty
+returns-then-is_empty c =
+    let e = eqb-true c.args.columns.now.from 20 (sym c.is_empty.ensures ∙ c.if-is_empty.true) in
+    λ l h. first_port _ _ _ _ c.args.port l e c.push_decimal.ensures h
 
 pub returns : goal.returns
 returns c =
-    let x = c.args in
-    let p = c.push-last in
-    let q = c.push in
-    (q.ensures.0, λ s h. rw (port_two x.port c.if-port-lt10.false c.requires.1) (q.ensures.1 _ (p.ensures.1 s h)))
+    let e = eqb-false c.args.columns.now.from 20 (sym c.is_empty.ensures ∙ c.if-is_empty.false) in
+    λ l h. more_ports _ _ _ _ c.args.port l e (λ s k. c.push_decimal-2.ensures (comma ∷ s) (c.push.ensures s k)) h

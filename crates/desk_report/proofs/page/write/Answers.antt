@@ -1,27 +1,34 @@
 -- The six lines are stored one after the other.
-use mathlib.Core.Path.{ap, ◌∙◌}
-use native.Mathlib.Nat.{zero-add}
+use Rattle.std.proofs.Common.{arith, sym, ap, Ok}
 use borrow.Author.Tests.{le-ltb}
+use lib.Seq.{length-take-le}
 use Rattle.wire.specs.Bytes.{ports_bytes}
-use Rattle.wire.proofs.Stores.{joined}
-use Rattle.wire_writer.specs.declared.Written.{Written}
 use Rattle.abstract_page.specs.Text.{left}
 use Rattle.abstract_page.specs.Page.{state, ports, number_name, state_name, port_name, millivolts_name, milliamps_name, tracked_name}
+use Rattle.abstract_page.proofs.Read.{line_length}
 use Rattle.desk_report.specs.Page.{figure_of}
-use Rattle.desk_report.proofs.Lines.{stored_line, no_more}
+use Rattle.desk_report.proofs.Lines.{stored_line, six_length, six_stored}
 use Rattle.desk_report.proofs.page.write.Goals as goal
 
-pub returns : goal.returns
+pub slice_bounds-write_line-end-2 : goal.slice_bounds-write_line-end-2
+slice_bounds-write_line-end-2 c = sym (length-take-le 41 c.args.buffer.now (omega arith))
+
+pub write_line-requires : goal.write_line-requires
+write_line-requires c = length-take-le 41 c.args.buffer.now (omega arith)
+
+pub returns-clause-value : goal.returns-clause-value
+returns-clause-value c =
+    rw (le-ltb _ _ c.if-buffer-lt-PAGE.false) (ap Ok (sym (six_length _ _ _ _ _ _ c.args.buffer.now (line_length _) (line_length _) (line_length _) (line_length _) (line_length _) (line_length _))))
+
+pub returns-clause-written : goal.returns-clause-written
 unfolding left
-returns c =
-    let x = c.args in
-    let o = x.buffer.now in
-    let g = x.page in
-    let p1 = stored_line o c.put_line-a.new.out 0 c.put_line-a.result number_name c.number_columns.result (figure_of g.number) c.put_line-a.ensures.0 c.put_line-a.ensures.1 c.number_columns.ensures in
-    let p2 = stored_line c.put_line-a.new.out c.put_line-b.new.out c.put_line-a.result c.put_line-b.result state_name c.state_columns.result (state g.state) c.put_line-b.ensures.0 c.put_line-b.ensures.1 c.state_columns.ensures in
-    let p3 = stored_line c.put_line-b.new.out c.put_line-c.new.out c.put_line-b.result c.put_line-c.result port_name c.number_columns-2.result (figure_of g.port) c.put_line-c.ensures.0 c.put_line-c.ensures.1 c.number_columns-2.ensures in
-    let p4 = stored_line c.put_line-c.new.out c.put_line-d.new.out c.put_line-c.result c.put_line-d.result millivolts_name c.number_columns-3.result (figure_of g.mv) c.put_line-d.ensures.0 c.put_line-d.ensures.1 c.number_columns-3.ensures in
-    let p5 = stored_line c.put_line-d.new.out c.put_line-e.new.out c.put_line-d.result c.put_line-e.result milliamps_name c.number_columns-4.result (figure_of g.ma) c.put_line-e.ensures.0 c.put_line-e.ensures.1 c.number_columns-4.ensures in
-    let p6 = stored_line c.put_line-e.new.out c.put_line.new.out c.put_line-e.result c.put_line.result tracked_name c.ports_columns.result (ports (ports_bytes g.tracked.mask)) c.put_line.ensures.0 c.put_line.ensures.1 c.ports_columns.ensures in
-    let j = joined p1 (joined p2 (joined p3 (joined p4 (joined p5 (joined p6 (no_more c.put_line.new.out c.put_line.result)))))) in
-    rw (le-ltb _ _ c.if-buffer-lt-PAGE.false) (ap Written.Length (j.place ∙ zero-add _), j.bytes)
+returns-clause-written c =
+    let g = c.args.page in
+    let e1 = stored_line c.write_line.new.line number_name c.number_columns.result.bytes (figure_of g.number) c.write_line.ensures c.number_columns.ensures in
+    let e2 = stored_line c.write_line-2.new.line state_name c.state_columns.result.bytes (state g.state) c.write_line-2.ensures c.state_columns.ensures in
+    let e3 = stored_line c.write_line-3.new.line port_name c.number_columns-2.result.bytes (figure_of g.port) c.write_line-3.ensures c.number_columns-2.ensures in
+    let e4 = stored_line c.write_line-4.new.line millivolts_name c.number_columns-3.result.bytes (figure_of g.mv) c.write_line-4.ensures c.number_columns-3.ensures in
+    let e5 = stored_line c.write_line-5.new.line milliamps_name c.number_columns-4.result.bytes (figure_of g.ma) c.write_line-5.ensures c.number_columns-4.ensures in
+    let e6 = stored_line c.write_line-6.new.line tracked_name c.ports_columns.result.bytes (ports (ports_bytes g.tracked.mask)) c.write_line-6.ensures c.ports_columns.ensures in
+    rw (le-ltb _ _ c.if-buffer-lt-PAGE.false, e1, e2, e3, e4, e5, e6)
+    (six_stored _ _ _ _ _ _ c.args.buffer.now (line_length _) (line_length _) (line_length _) (line_length _) (line_length _) (line_length _) c.if-buffer-lt-PAGE.false)

@@ -1,87 +1,117 @@
 -- Each turn is a step of `take_all`: a packet takes at least one byte, and at most those that are left.
-use Rattle.std.proofs.Common.{◌≤◌, ◌∙◌, length, take, arith, length-drop, length-take}
-use Rattle.std.proofs.lemmas.Bool.{not-false}
+use Rattle.std.proofs.Common.{◌≡◌, ◌≤◌, ◌+◌, ◌∙◌, ◌++◌, length, arith, refl, length-drop}
+use Rattle.std.proofs.lemmas.Result.{err_from_is_err_and}
 use Rattle.desk_stream.proofs.Takes.{used-within, step-used, step-more, step-stop, none_more}
-use Rattle.desk_stream.proofs.Holds.{holds-used, holds_more, holds-stop, holds_all}
-use Rattle.desk_stream.proofs.Known.{due_used, due_more, due_stop}
+use Rattle.desk_stream.proofs.Holds.{holds_first, holds-used, holds_more, holds-stop, holds_all, held_short}
+use Rattle.desk_stream.proofs.Known.{due_first, due_used, due_more, due_stop, due_all}
 use Rattle.desk_stream.proofs.take.take_all.Goals as goal
+
+pub loop-used-init : goal.loop-used-init
+loop-used-init g c = record {
+  within = omega arith;
+  sink = refl;
+  short = rw c.clear.ensures (omega arith);
+  left = refl;
+  holds = rw c.clear.ensures (holds_first c.args.desk.now c.args.input.now);
+  due = rw c.clear.ensures (due_first c.args.desk.now c.args.lines.now.sink c.args.input.now _);
+}
+
+pub returns-in_err-add-clause-same : goal.returns-in_err-add-clause-same
+returns-in_err-add-clause-same g c = c.add.ensures.same ∙ c.loop-used.invariant.sink
+
+pub returns-in_err-add-clause-took : goal.returns-in_err-add-clause-took
+returns-in_err-add-clause-took g c =
+    let p = err_from_is_err_and c.from_residual.result c.from_residual.ensures.1 in
+    rw (p.1, p.2) (rw c.loop-used.invariant.sink at c.in_err-add.ensures.goes)
 
 pub overflow_add-used : goal.overflow_add-used
 overflow_add-used g c =
-    let x = c.args in
     let l = c.loop-used in
-    let o = c.take_one-one in
-    let s = x.input.now in
-    let b = used-within x.desk l.after o.result.desk s l.used o.result.next l.invariant.0 l.invariant.2 o.ensures.took.0 o.ensures.took.1 c.in-Used.n c.in-Used.is in
+    let s = c.args.input.now in
+    let b = used-within c.args.desk.now l.desk c.step-next.new.self s l.used c.step-next.result.0 l.invariant.within l.invariant.left c.step-next.ensures.desk c.step-next.ensures.next c.in-Used.n c.in-Used.is in
     omega (arith, b.1, length-drop l.used s, c.well_formed)
 
 pub loop-used-smaller : goal.loop-used-smaller
 loop-used-smaller g c =
-    let x = c.args in
     let l = c.loop-used in
-    let o = c.take_one-one in
-    let s = x.input.now in
-    let b = used-within x.desk l.after o.result.desk s l.used o.result.next l.invariant.0 l.invariant.2 o.ensures.took.0 o.ensures.took.1 c.in-Used.n c.in-Used.is in
+    let s = c.args.input.now in
+    let b = used-within c.args.desk.now l.desk c.step-next.new.self s l.used c.step-next.result.0 l.invariant.within l.invariant.left c.step-next.ensures.desk c.step-next.ensures.next c.in-Used.n c.in-Used.is in
     omega (arith, b.0, b.1, length-drop l.used s)
 
 pub loop-used-preserved : goal.loop-used-preserved
 loop-used-preserved g c =
-    let x = c.args in
+    let d = c.args.desk.now in
     let l = c.loop-used in
-    let o = c.take_one-one in
-    let s = x.input.now in
+    let i = l.invariant in
+    let s = c.args.input.now in
+    let p = c.step-next.ensures in
     let n = c.in-Used.n in
-    let b = used-within x.desk l.after o.result.desk s l.used o.result.next l.invariant.0 l.invariant.2 o.ensures.took.0 o.ensures.took.1 n c.in-Used.is in (
-      omega (arith, b.1, length-drop l.used s),
-      o.ensures.took.2,
-      step-used x.desk l.after o.result.desk s l.used o.result.next l.invariant.0 l.invariant.2 o.ensures.took.0 o.ensures.took.1 n c.in-Used.is,
-      holds-used x.desk l.after o.result.desk s (take l.full l.buffer) (take o.result.full o.new.buffer) l.used o.result.next c.loop-used-test.true l.invariant.3 o.ensures.took.0 o.ensures.took.1 o.ensures.took.3 n c.in-Used.is b.0,
-      due_used x.desk l.after o.result.desk x.sink s (take l.full l.buffer) (take o.result.full o.new.buffer) _ _ _ l.used o.result.next l.invariant.4 o.ensures.took.0 o.ensures.took.1 (o.ensures.owes (not-false o.result.on c.if-not-one.false)) n c.in-Used.is,
-    )
+    let b = used-within d l.desk c.step-next.new.self s l.used c.step-next.result.0 i.within i.left p.desk p.next n c.in-Used.is in
+    let h = rw (c.as_slice.ensures.value, p.line) at c.in_ok-add.ensures.held in
+    let o = rw (c.as_slice.ensures.value, p.line, i.sink) at c.in_ok-add.ensures.owes in
+    record {
+      within = omega (arith, b.1, length-drop l.used s);
+      sink = c.add.ensures.same ∙ i.sink;
+      short = rw c.in_ok-add.ensures.held (held_short _ _ (omega (arith, c.as_slice.ensures.fits)));
+      left = step-used d l.desk c.step-next.new.self s l.used c.step-next.result.0 i.within i.left p.desk p.next n c.in-Used.is;
+      holds = holds-used d l.desk c.step-next.new.self s l.lines.bytes _ l.used c.step-next.result.0 c.loop-used-test.true i.holds p.desk p.next h n c.in-Used.is b.0;
+      due = due_used d l.desk c.step-next.new.self c.args.lines.now.sink s l.lines.bytes _ _ _ _ l.used c.step-next.result.0 i.due p.desk p.next o n c.in-Used.is;
+    }
+
+pub returns-in-More-clause-same : goal.returns-in-More-clause-same
+returns-in-More-clause-same g c = c.add.ensures.same ∙ c.loop-used.invariant.sink
 
 pub returns-in-More-clause-took : goal.returns-in-More-clause-took
 returns-in-More-clause-took g c =
-    let x = c.args in
     let l = c.loop-used in
-    let o = c.take_one-one in
-    let s = x.input.now in (
-      l.invariant.0,
-      o.ensures.took.2,
-      step-more x.desk l.after o.result.desk s l.used o.result.next l.invariant.0 l.invariant.2 o.ensures.took.0 o.ensures.took.1 c.in-More.is,
-      holds_more x.desk l.after o.result.desk s (take l.full l.buffer) (take o.result.full o.new.buffer) l.used o.result.next c.loop-used-test.true l.invariant.3 o.ensures.took.0 o.ensures.took.1 o.ensures.took.3 c.in-More.is,
-    )
+    (l.invariant.within, step-more c.args.desk.now l.desk c.step-next.new.self c.args.input.now l.used c.step-next.result.0 l.invariant.within l.invariant.left c.step-next.ensures.desk c.step-next.ensures.next c.in-More.is)
 
-pub returns-in-More-clause-tells : goal.returns-in-More-clause-tells
-returns-in-More-clause-tells g c =
-    let x = c.args in
+pub returns-in-More-clause-collected : goal.returns-in-More-clause-collected
+returns-in-More-clause-collected g c =
     let l = c.loop-used in
-    let o = c.take_one-one in
-    due_more x.desk l.after o.result.desk x.sink x.input.now (take l.full l.buffer) (take o.result.full o.new.buffer) _ _ _ l.used o.result.next l.invariant.4 o.ensures.took.0 o.ensures.took.1 (o.ensures.owes (not-false o.result.on c.if-not-one.false)) c.in-More.is
+    let h = rw (c.as_slice.ensures.value, c.step-next.ensures.line) at c.in_ok-add.ensures.held in
+    holds_more c.args.desk.now l.desk c.step-next.new.self c.args.input.now l.lines.bytes _ l.used c.step-next.result.0 c.loop-used-test.true l.invariant.holds c.step-next.ensures.desk c.step-next.ensures.next h c.in-More.is
+
+pub returns-in-More-clause-owes : goal.returns-in-More-clause-owes
+returns-in-More-clause-owes g c =
+    let l = c.loop-used in
+    let o = rw (c.as_slice.ensures.value, c.step-next.ensures.line, l.invariant.sink) at c.in_ok-add.ensures.owes in
+    due_more c.args.desk.now l.desk c.step-next.new.self c.args.lines.now.sink c.args.input.now l.lines.bytes _ _ _ _ l.used c.step-next.result.0 l.invariant.due c.step-next.ensures.desk c.step-next.ensures.next o c.in-More.is
+
+pub returns-in-Stop-clause-same : goal.returns-in-Stop-clause-same
+returns-in-Stop-clause-same g c = c.add.ensures.same ∙ c.loop-used.invariant.sink
 
 pub returns-in-Stop-clause-took : goal.returns-in-Stop-clause-took
 returns-in-Stop-clause-took g c =
-    let x = c.args in
     let l = c.loop-used in
-    let o = c.take_one-one in
-    let s = x.input.now in (
-      l.invariant.0,
-      o.ensures.took.2,
-      step-stop x.desk l.after o.result.desk s l.used o.result.next l.invariant.0 l.invariant.2 o.ensures.took.0 o.ensures.took.1 c.in-Stop.is,
-      holds-stop x.desk l.after o.result.desk s (take l.full l.buffer) (take o.result.full o.new.buffer) l.used o.result.next c.loop-used-test.true l.invariant.3 o.ensures.took.0 o.ensures.took.1 o.ensures.took.3 c.in-Stop.is,
-    )
+    step-stop c.args.desk.now l.desk c.step-next.new.self c.args.input.now l.used c.step-next.result.0 l.invariant.within l.invariant.left c.step-next.ensures.desk c.step-next.ensures.next c.in-Stop.is
 
-pub returns-in-Stop-clause-tells : goal.returns-in-Stop-clause-tells
-returns-in-Stop-clause-tells g c =
-    let x = c.args in
+pub returns-in-Stop-clause-collected : goal.returns-in-Stop-clause-collected
+returns-in-Stop-clause-collected g c =
     let l = c.loop-used in
-    let o = c.take_one-one in
-    due_stop x.desk l.after o.result.desk x.sink x.input.now (take l.full l.buffer) (take o.result.full o.new.buffer) _ _ _ l.used o.result.next l.invariant.4 o.ensures.took.0 o.ensures.took.1 (o.ensures.owes (not-false o.result.on c.if-not-one.false)) c.in-Stop.is
+    let h = rw (c.as_slice.ensures.value, c.step-next.ensures.line) at c.in_ok-add.ensures.held in
+    holds-stop c.args.desk.now l.desk c.step-next.new.self c.args.input.now l.lines.bytes _ l.used c.step-next.result.0 c.loop-used-test.true l.invariant.holds c.step-next.ensures.desk c.step-next.ensures.next h c.in-Stop.is
+
+pub returns-in-Stop-clause-owes : goal.returns-in-Stop-clause-owes
+returns-in-Stop-clause-owes g c =
+    let l = c.loop-used in
+    let o = rw (c.as_slice.ensures.value, c.step-next.ensures.line, l.invariant.sink) at c.in_ok-add.ensures.owes in
+    due_stop c.args.desk.now l.desk c.step-next.new.self c.args.lines.now.sink c.args.input.now l.lines.bytes _ _ _ _ l.used c.step-next.result.0 l.invariant.due c.step-next.ensures.desk c.step-next.ensures.next o c.in-Stop.is
+
+pub returns-clause-same : goal.returns-clause-same
+returns-clause-same g c = c.loop-used.invariant.sink
 
 pub returns-clause-took : goal.returns-clause-took
 returns-clause-took g c =
-    let x = c.args in
     let l = c.loop-used in
-    let s = x.input.now in
-    let b = take l.full l.buffer in
-    let h : length b ≤ 4096 = omega (arith, length-take l.full l.buffer, l.invariant.1) in
-    (l.invariant.0, l.invariant.1, l.invariant.2 ∙ none_more l.after s l.used c.loop-used-test.false, holds_all x.desk l.after s b l.used c.loop-used-test.false h l.invariant.3)
+    (l.invariant.within, l.invariant.left ∙ none_more l.desk c.args.input.now l.used c.loop-used-test.false)
+
+pub returns-clause-collected : goal.returns-clause-collected
+returns-clause-collected g c =
+    let l = c.loop-used in
+    holds_all c.args.desk.now l.desk c.args.input.now l.lines.bytes l.used c.loop-used-test.false l.invariant.short l.invariant.holds
+
+pub returns-clause-owes : goal.returns-clause-owes
+returns-clause-owes g c =
+    let l = c.loop-used in
+    due_all c.args.desk.now l.desk c.args.lines.now.sink c.args.input.now l.lines.bytes _ _ l.used c.loop-used-test.false l.invariant.due

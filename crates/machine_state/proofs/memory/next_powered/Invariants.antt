@@ -1,10 +1,7 @@
 -- From each place on the search goes on as from the first.
 use Rattle.machine_state.specs.Memory.{next_powered}
-use Rattle.std.proofs.Common.{◌≤◌, ◌-◌, ◌≡◌}
+use Rattle.std.proofs.Common.{◌-◌, ◌≡◌}
 use Rattle.machine_state.proofs.memory.next_powered.Given as goal
 
 abbrev pub invariant-loop-i : goal.invariant-loop-i
-invariant-loop-i l = (l.«from» ≤ l.i) × (next_powered l.records (l.count - l.«from») l.«from» ≡ next_powered l.records (l.count - l.i) l.i)
-
-abbrev pub decreases-loop-i : goal.decreases-loop-i
-decreases-loop-i l = l.count - l.i
+invariant-loop-i l = next_powered l.records (l.count - l.«from») l.«from» ≡ next_powered l.records (l.count - l.i) l.i

@@ -1,0 +1,6 @@
+-- The row's loop by the laws of Reading.
+use Rattle.interface_records.proofs.Reading.{Reached}
+use Rattle.interface_records.proofs.row.read_row.Given as goal
+
+abbrev pub invariant-loop-i : goal.invariant-loop-i
+invariant-loop-i g l = Reached g.R.Record.reads g.R.Record.LENGTH g.row.N l.fn.fill l.count l.s l.row l.i
