@@ -58,8 +58,11 @@ def bare(text):
     return text
 
 
-# Functions of a result that no two results share (proofs/Numbered.antt of power_policy_interface): what they equal fixes it.
-WHOLE = re.compile(r"(?:numbered|turned_back_by|stepped_by self) result$")
+# Functions of a result that no two results share: `numbered`, as no two conditions have one number (power_policy_interface proofs/Numbered.antt), and `stepped_by`,
+# which keeps step, number and service. `turned_back_by` leaves out what an accepted call gives, so that it fixes a result only where that is (), or where
+# another clause says what it is.
+WHOLE = re.compile(r"(?:numbered|stepped_by self) result$")
+TOLD = re.compile(r"IfOk result \(λ (\w+)\. [^()]* ≡ Some \1\)")
 
 
 def equalities(text, system):
@@ -96,6 +99,8 @@ def faults(arguments, result, clauses, fields, system=False):
         yield "has a requires"
     if "ensures" not in clauses:
         yield "has no ensures"
+    if "turned_back_by result" in found and (result.strip() == "Result<(), Refusal>" or TOLD.search(clauses)):
+        found.add("result")
     if result and "result" not in found:
         of = fields.get(result.strip())
         if not of or any("result.%s" % field not in found for field in of):
@@ -165,6 +170,9 @@ PLANTED = [
     ("pub fn f(a: &mut [u8], b: &mut [u8])\n    ensures { a.new ≡ b.old }\n", "b is at exit"),
     ("pub fn f(n: u8) -> u8\n    ensures { numbered result ≡ twice n }\n", ""),
     ("pub fn f(n: u8) -> u8\n    ensures { numbered result ≡ numbered result }\n", "the result"),
+    ("pub fn f(n: u8) -> Result<(), Refusal>\n    ensures { turned_back_by result ≡ twice n }\n", ""),
+    ("pub fn f(n: u8) -> Result<u8, Refusal>\n    ensures { turned_back_by result ≡ twice n }\n", "the result"),
+    ("pub fn f(n: u8) -> Result<u8, Refusal>\n    ensures a { turned_back_by result ≡ twice n }\n    ensures b { IfOk result (λ o. m ≡ Some o) }\n", ""),
     ("pub fn f(&mut self)\n    ensures { self.new ≡ twice self.old }\n", ""),
     ("pub fn f(&mut self) -> u8\n    ensures { result ≡ self.old }\n", "self is at exit"),
 ]
