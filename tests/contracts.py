@@ -62,7 +62,13 @@ def bare(text):
 # which keeps step, number and service. `turned_back_by` leaves out what an accepted call gives, so that it fixes a result only where that is (), or where
 # another clause says what it is.
 WHOLE = re.compile(r"(?:numbered|stepped_by self) result$")
-TOLD = re.compile(r"IfOk result \(λ (\w+)\. [^()]* ≡ Some \1\)")
+TOLD = re.compile(r"IfOk result \(λ (\w+)\. (?:(?:(?!\b\1\b)[^{}])+ ≡ Some \1(\.\d)?|\1(\.\d)? ≡ (?:(?!\b\1\b)[^{}])+)\) \}")
+
+
+def told(result, clauses):
+    """Whether the clauses say what an accepted call gives: as a whole, or each of a pair."""
+    fixed = {m.group(2) or m.group(3) or "" for m in TOLD.finditer(clauses)}
+    return result == "Result<(), Refusal>" or "" in fixed or result.startswith("Result<(") and {".0", ".1"} <= fixed
 
 
 def equalities(text, system):
@@ -99,7 +105,7 @@ def faults(arguments, result, clauses, fields, system=False):
         yield "has a requires"
     if "ensures" not in clauses:
         yield "has no ensures"
-    if "turned_back_by result" in found and (result.strip() == "Result<(), Refusal>" or TOLD.search(clauses)):
+    if "turned_back_by result" in found and told(result.strip(), clauses):
         found.add("result")
     if result and "result" not in found:
         of = fields.get(result.strip())
@@ -173,6 +179,10 @@ PLANTED = [
     ("pub fn f(n: u8) -> Result<(), Refusal>\n    ensures { turned_back_by result ≡ twice n }\n", ""),
     ("pub fn f(n: u8) -> Result<u8, Refusal>\n    ensures { turned_back_by result ≡ twice n }\n", "the result"),
     ("pub fn f(n: u8) -> Result<u8, Refusal>\n    ensures a { turned_back_by result ≡ twice n }\n    ensures b { IfOk result (λ o. m ≡ Some o) }\n", ""),
+    ("pub fn f(n: u8) -> Result<u8, Refusal>\n    ensures a { turned_back_by result ≡ twice n }\n    ensures b { IfOk result (λ o. o ≡ twice (n + 1)) }\n", ""),
+    ("pub fn f(n: u8) -> Result<u8, Refusal>\n    ensures a { turned_back_by result ≡ twice n }\n    ensures b { IfOk result (λ o. o ≡ twice o) }\n", "the result"),
+    ("pub fn f(n: u8) -> Result<(u8, u8), Refusal>\n    ensures a { turned_back_by result ≡ n }\n    ensures b { IfOk result (λ o. n ≡ Some o.0) }\n    ensures c { IfOk result (λ o. o.1 ≡ n) }\n", ""),
+    ("pub fn f(n: u8) -> Result<(u8, u8), Refusal>\n    ensures a { turned_back_by result ≡ n }\n    ensures b { IfOk result (λ o. n ≡ Some o.0) }\n", "the result"),
     ("pub fn f(&mut self)\n    ensures { self.new ≡ twice self.old }\n", ""),
     ("pub fn f(&mut self) -> u8\n    ensures { result ≡ self.old }\n", "self is at exit"),
 ]

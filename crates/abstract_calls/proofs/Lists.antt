@@ -2,16 +2,11 @@
 use mathlib.Core.List.{List, [], ◌∷◌, ◌++◌, append_assoc}
 use mathlib.Core.Path.{◌≡◌, refl, sym, ap, ◌∙◌}
 use Prim.Native.Nat.{ℕ}
-use lib.Dec.{lit<}
-use Rattle.interface_records.specs.Row.{AllBytes}
 use Rattle.abstract_desk.specs.Takes.{EachBytes}
 use Rattle.abstract_calls.specs.Calls.{CallBytes, CallsBytes, image_after, images, desk_after, desks, packets_of, DeskBytes}
 use Rattle.abstract_calls.specs.DeskCall.{DeskCall, desk_call}
 use Rattle.abstract_calls.specs.Functions.{Functions}
 use Rattle.abstract_calls.specs.ServiceCall.{ByteCall}
-
-pub no_bytes : AllBytes []
-no_bytes k = lit< tt
 
 -- one more
 

@@ -21,15 +21,18 @@ use Rattle.power_policy_interface.specs.declared.psu.Error.{Error}
 use Rattle.power_policy_interface.specs.declared.psu.StateKind.{StateKind}
 use Rattle.power_policy_interface.specs.declared.service.UnconstrainedState.{UnconstrainedState}
 use Rattle.power_policy_interface.proofs.OneByte.{consumer_injective, consumer_read_write, provider_read_write, answer_read_write}
+use Rattle.interface_display.specs.Display.{state_number}
 use Rattle.interface_display.specs.Providers.{len, ones}
 use Rattle.interface_display.specs.declared.Display.{Display}
 use Rattle.interface_display.specs.declared.providers.Providers.{Providers}
 use Rattle.interface_display.specs.declared.State.{State}
 use Rattle.interface_display.proofs.Count.{ones_le}
 use Rattle.abstract_policy.specs.declared.order.Order.{Order}
-use Rattle.abstract_calls.specs.Numbers.{packed, wait_ms, refused_number, order_number, closed_number, written_number, state_number, lost_number, shown_number, consumer_number, tracked_number}
+use Rattle.abstract_calls.specs.Numbers.{packed, wait_ms, refused_number, order_number, closed_number, written_number, lost_number, shown_number, consumer_number, tracked_number}
 use Rattle.abstract_calls.specs.OneToOne.{OrderFits, MismatchFits, AnswerFits, ConsumerFits, ProvidersFit, DisplayFits, OneToOne}
 use Rattle.abstract_calls.proofs.Results.{refused_low, order_low, closed_low, written_low, done_low, packed_low}
+use Rattle.power_policy_interface.proofs.Bits.{bit_le, bit_lt}
+use Rattle.power_policy_interface.proofs.KindBits.{actual_lt}
 
 -- one field after the other
 
@@ -70,10 +73,6 @@ module _ {w a b c d e v p q r s t : ℕ} (hw : w < 256) (ha : a < 256) (hb : b <
 
 -- flags are a byte
 
-bit_small : (b : Bool) → bit b ≤ 1
-bit_small true = omega arith
-bit_small false = omega arith
-
 type_small : (t : Option PsuType) → psu_type_number t ≤ 6
 type_small None = omega arith
 type_small (Some PsuType.TypeC) = omega arith
@@ -84,7 +83,7 @@ type_small (Some PsuType.Custom2) = omega arith
 type_small (Some PsuType.Custom3) = omega arith
 
 consumer_byte : (f : ConsumerFlags) → consumer_flags_byte f < 256
-consumer_byte f = omega (arith, bit_small f.unconstrained_power, type_small f.psu_type)
+consumer_byte f = omega (arith, bit_le f.unconstrained_power, type_small f.psu_type)
 
 provider_byte : (f : ProviderFlags) → provider_flags_byte f < 256
 provider_byte f = omega (arith, type_small f.psu_type)
@@ -272,12 +271,6 @@ some_result a b e = cc
 same_dropped : (a b : Result (Unit {0}) Error) → answer_byte a ≡ answer_byte b → dropped a ≡ dropped b
 same_dropped a b e = some_result (dropped a) (dropped b) (sym (answer_read_write a) ∙ (ap answer_from e ∙ answer_read_write b))
 
-kind_small : (k : StateKind) → kind_number k < 256
-kind_small StateKind.Detached = omega arith
-kind_small StateKind.Idle = omega arith
-kind_small StateKind.ConnectedProvider = omega arith
-kind_small StateKind.ConnectedConsumer = omega arith
-
 abbrev kind_from : ℕ → StateKind
 kind_from n = get_or (StateKind.Detached ∷ StateKind.Idle ∷ StateKind.ConnectedProvider ∷ []) n StateKind.ConnectedConsumer
 
@@ -290,10 +283,6 @@ kind_back StateKind.ConnectedConsumer = refl
 expected_small : (m : Option Mismatch) → MismatchFits m → expected_byte m < 256
 expected_small None h = omega arith
 expected_small (Some m) h = h.1
-
-actual_small : (m : Option Mismatch) → actual_byte m < 256
-actual_small None = omega arith
-actual_small (Some m) = kind_small m.actual
 
 two_states : (x y : ℕ) (a b : StateKind) → x ≡ y → a ≡ b →
     ◌≡◌ {A = Option Mismatch} (Some (record { expected = x; actual = a })) (Some (record { expected = y; actual = b }))
@@ -322,7 +311,7 @@ close_one a b n m h k e =
     let x = states_fit a h in
     let y = states_fit b k in
     let z =
-    alike {d = n} {e = 0} {s = m} {t = 0} (lit< tt) (answer_small a) (expected_small (states_in a) x) (actual_small (states_in a)) (lit< tt) (answer_small b) (expected_small (states_in b) y) (actual_small (states_in b))
+    alike {d = n} {e = 0} {s = m} {t = 0} (lit< tt) (answer_small a) (expected_small (states_in a) x) (actual_lt (states_in a)) (lit< tt) (answer_small b) (expected_small (states_in b) y) (actual_lt (states_in b))
     (sym (closed_fields a n) ∙ (e ∙ closed_fields b m)) in
     let f = z.four in (
       same_answers a b (dropped a) (dropped b) (states_in a) (states_in b) (same_dropped a b z.one) (same_states (states_in a) (states_in b) x y z.two z.three) (answer_back a) (answer_back b),
@@ -347,10 +336,6 @@ state_back State.Waiting = refl
 state_one : (s t : State) → state_number s ≡ state_number t → s ≡ t
 state_one s t e = sym (state_back s) ∙ (ap state_from e ∙ state_back t)
 
-bit_byte : (b : Bool) → bit b < 256
-bit_byte true = omega arith
-bit_byte false = omega arith
-
 bit_one : (b c : Bool) → bit b ≡ bit c → b ≡ c
 bit_one true true e = refl
 bit_one true false e = absurd (omega (arith, e))
@@ -365,7 +350,7 @@ whole n = omega arith
 
 number_alone : (s : State) (n : ℕ) (d : Display) → d.unconstrained.available < 256 → shown_number s n d / 4294967296 ≡ n
 number_alone s n d h =
-    fields-4 5 (state_number s) (bit d.unconstrained.unconstrained) d.unconstrained.available (n % 65536) (n / 65536) (lit< tt) (state_small s) (bit_byte d.unconstrained.unconstrained) h
+    fields-4 5 (state_number s) (bit d.unconstrained.unconstrained) d.unconstrained.available (n % 65536) (n / 65536) (lit< tt) (state_small s) (bit_lt d.unconstrained.unconstrained) h
     ∙ whole n
 
 shown_one : (s t : State) (n m : ℕ) (d e : Display) → DisplayFits d → DisplayFits e → shown_number s n d ≡ shown_number t m e →
@@ -374,7 +359,7 @@ shown_one s t n m d e h k q =
     let u = d.unconstrained in
     let v = e.unconstrained in
     let z =
-    alike {d = n % 65536} {e = n / 65536} {s = m % 65536} {t = m / 65536} (lit< tt) (state_small s) (bit_byte u.unconstrained) h.available (lit< tt) (state_small t) (bit_byte v.unconstrained) k.available q in
+    alike {d = n % 65536} {e = n / 65536} {s = m % 65536} {t = m / 65536} (lit< tt) (state_small s) (bit_lt u.unconstrained) h.available (lit< tt) (state_small t) (bit_lt v.unconstrained) k.available q in
     (state_one s t z.one, sym (whole n) ∙ (z.four ∙ whole m), same_figures u.unconstrained v.unconstrained u.available v.available (bit_one u.unconstrained v.unconstrained z.two) z.three)
 
 lost_state : (s b c d e : ℕ) → s < 256 → packed 5 s b c d e ≡ packed 5 0 0 0 0 0 → s ≡ 0

@@ -6,6 +6,7 @@ use Rattle.power_policy_interface.specs.Psu.{error_byte, mismatch_of, expected_b
 use Rattle.power_policy_interface.specs.declared.capability.PowerCapability.{PowerCapability}
 use Rattle.interface_display.specs.declared.AvailableConsumer.{AvailableConsumer}
 use Rattle.power_policy_interface.specs.declared.psu.Error.{Error}
+use Rattle.interface_display.specs.Display.{state_number}
 use Rattle.interface_display.specs.Providers.{len}
 use Rattle.interface_display.specs.declared.Display.{Display}
 use Rattle.interface_display.specs.declared.providers.Providers.{Providers}
@@ -61,11 +62,6 @@ abbrev pub done_number : ℕ
 done_number = packed 4 0 0 0 0 0
 
 -- what a follower shows
-
-abbrev pub state_number : State → ℕ
-state_number State.Lost = 0
-state_number State.Level = 1
-state_number State.Waiting = 2
 
 abbrev pub lost_number : ℕ
 lost_number = packed 5 0 0 0 0 0

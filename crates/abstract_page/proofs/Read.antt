@@ -12,7 +12,7 @@ use lib.ListN.{length, take, drop, length-append}
 use lib.Seq.{take_at, drop_at}
 use borrow.Author.Tests.{leb-true, ne_eqb}
 use Rattle.power_policy_interface.specs.Limits.{largest, max_ports, page_length}
-use Rattle.power_policy_interface.proofs.Conjunction.{and_left, and_right}
+use Rattle.std.proofs.lemmas.Bool.{and_parts}
 use Rattle.interface_display.specs.Providers.{len, max_connected_providers}
 use Rattle.interface_display.specs.declared.AvailableConsumer.{AvailableConsumer}
 use Rattle.interface_display.specs.declared.Display.{Display}
@@ -185,18 +185,18 @@ six_fit a b c d e f ha hb hc hd he hf =
 module _ (s : State) (n : ℕ) (d : Display) (h : picture_fits (record { number = n; display = d }) ≡ true) where
   number_below : n < 10 ^ 10
   unfolding picture_fits
-  number_below = omega (arith, leb-true n largest (and_left (leb n largest) _ h))
+  number_below = omega (arith, leb-true n largest (and_parts (leb n largest) _ h).0)
 
   display_fits : consumer_fits d.consumer && (leb d.unconstrained.available max_ports && (ltb d.providers.mask 65536 && leb (len d.providers) max_connected_providers)) ≡ true
   unfolding picture_fits
-  display_fits = and_right (leb n largest) _ h
+  display_fits = (and_parts (leb n largest) _ h).1
 
   few : leb (len d.providers) max_connected_providers ≡ true
-  few = and_right (ltb d.providers.mask 65536) _ (and_right (leb d.unconstrained.available max_ports) _ (and_right (consumer_fits d.consumer) _ display_fits))
+  few = (and_parts (ltb d.providers.mask 65536) _ (and_parts (leb d.unconstrained.available max_ports) _ (and_parts (consumer_fits d.consumer) _ display_fits).1).1).1
 
   of_consumer_lem : (f : AvailableConsumer → ℕ) → ((a : AvailableConsumer) → consumer_fits (Some a) ≡ true → f a < 10 ^ 10)
       → FigureFits (of_consumer f d.consumer)
-  of_consumer_lem f h = consumer_fits_lem f d.consumer h (and_left (consumer_fits d.consumer) _ display_fits)
+  of_consumer_lem f h = consumer_fits_lem f d.consumer h (and_parts (consumer_fits d.consumer) _ display_fits).0
 
   tracked_fit : FigureFits (ports (ports_bytes d.providers.mask))
   tracked_fit = set_fits d.providers few
@@ -209,9 +209,9 @@ module _ (s : State) (n : ℕ) (d : Display) (h : picture_fits (record { number 
       (of_consumer milliamps d.consumer)
       (ports (ports_bytes d.providers.mask))
       (one_fits n number_below) tt
-      (of_consumer_lem (λ c. c.psu) (λ a e. omega (arith, leb-true a.psu 15 (and_left (leb a.psu 15) _ e))))
-      (of_consumer_lem millivolts (λ a e. omega (arith, leb-true (millivolts a) 65535 (and_left (leb (millivolts a) 65535) (leb (milliamps a) 65535) (and_right (leb a.psu 15) _ e)))))
-      (of_consumer_lem milliamps (λ a e. omega (arith, leb-true (milliamps a) 65535 (and_right (leb (millivolts a) 65535) (leb (milliamps a) 65535) (and_right (leb a.psu 15) _ e)))))
+      (of_consumer_lem (λ c. c.psu) (λ a e. omega (arith, leb-true a.psu 15 (and_parts (leb a.psu 15) _ e).0)))
+      (of_consumer_lem millivolts (λ a e. omega (arith, leb-true (millivolts a) 65535 (and_parts (leb (millivolts a) 65535) (leb (milliamps a) 65535) (and_parts (leb a.psu 15) _ e).1).0)))
+      (of_consumer_lem milliamps (λ a e. omega (arith, leb-true (milliamps a) 65535 (and_parts (leb (millivolts a) 65535) (leb (milliamps a) 65535) (and_parts (leb a.psu 15) _ e).1).1)))
       tracked_fit
 
 -- a page has its length, and is read as what it says

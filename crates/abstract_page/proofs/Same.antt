@@ -6,12 +6,11 @@ use mathlib.Core.Bool.{true}
 use mathlib.Core.List.{List, [], ◌∷◌}
 use Rattle.interface_display.specs.declared.AvailableConsumer.{AvailableConsumer}
 use Prim.Native.Nat.{ℕ, zero, suc, ◌<◌}
-use native.Mathlib.Omega.{arith}
 use lib.Dec.{leb, ltb}
 use lib.ListN.{length}
 use borrow.Author.Tests.{ltb-true}
 use Rattle.power_policy_interface.specs.Limits.{largest, max_ports}
-use Rattle.power_policy_interface.proofs.Conjunction.{and_left, and_right}
+use Rattle.std.proofs.lemmas.Bool.{and_parts}
 use Rattle.interface_display.specs.Providers.{len}
 use Rattle.interface_display.specs.declared.Display.{Display}
 use Rattle.interface_display.specs.declared.providers.Providers.{Providers}
@@ -34,7 +33,7 @@ figure zero (e ∷ l) = e.figure
 figure (suc i) (e ∷ l) = figure i l
 
 absent_or_one : {A : Type 0} (n : ℕ) → absent ≡ one n → A
-absent_or_one n e = absurd (let z : ◌≡◌ {A = ℕ} 0 1 = cc in omega arith)
+absent_or_one n e = absurd (cc)
 
 one_one : (n m : ℕ) → one n ≡ one m → n ≡ m
 one_one n m e = cc
@@ -52,8 +51,8 @@ consumer_same (Some c) (Some k) p v a =
 
 ports_same : (l k : List ℕ) → ports l ≡ ports k → l ≡ k
 ports_same [] [] e = refl
-ports_same [] (q ∷ k) e = absurd (let z : ◌≡◌ {A = ℕ} 0 1 = cc in omega arith)
-ports_same (p ∷ l) [] e = absurd (let z : ◌≡◌ {A = ℕ} 0 1 = cc in omega arith)
+ports_same [] (q ∷ k) e = absurd (cc)
+ports_same (p ∷ l) [] e = absurd (cc)
 ports_same (p ∷ l) (q ∷ k) e = cc
 
 one_set : (t u : Providers) → parsed t [] ≡ parsed u [] → t ≡ u
@@ -71,8 +70,8 @@ tracked_same t u h k e =
 mask_fits : (n : ℕ) (d : Display) → picture_fits (record { number = n; display = d }) ≡ true → d.providers.mask < 65536
 unfolding picture_fits
 mask_fits n d h =
-    let r = and_right (leb d.unconstrained.available max_ports) _ (and_right (consumer_fits d.consumer) _ (and_right (leb n largest) _ h)) in
-    ltb-true d.providers.mask 65536 (and_left (ltb d.providers.mask 65536) _ r)
+    let r = (and_parts (leb d.unconstrained.available max_ports) _ (and_parts (consumer_fits d.consumer) _ (and_parts (leb n largest) _ h).1).1).1 in
+    ltb-true d.providers.mask 65536 (and_parts (ltb d.providers.mask 65536) _ r).0
 
 same_told : (p q : desk.Follower) → Fits p → Fits q → entries_of p ≡ entries_of q → told p ≡ told q
 unfolding figure

@@ -74,9 +74,6 @@ skips = record { cost = λ j t e h r k p. free j t (k tt h r) e (p h r) }
 
 -- one order, and its answer
 
-the_one : (j t : ℕ) → t ≡ 1 + j → t ≡ suc j
-the_one j t e = omega arith
-
 psu_answer : (a : Result (Unit {0}) Error) (j : ℕ) (h : Held) (r : Records) (k : Unit {0} → Held → Records → Interaction) → AtMost j (k tt h r) → AtMost j (ok a h r k)
 psu_answer (Ok tt) j h r k p = p
 psu_answer (Err x) j h r k p = tt
@@ -86,13 +83,13 @@ charger_answer (Ok tt) j h r k p = p
 charger_answer (Err x) j h r k p = tt
 
 asks_psu : (o : Order) → Costs 1 (psu o)
-asks_psu o = record { cost = λ j t e h r k p. rw (the_one j t e) (λ a r'. psu_answer a j h r' k (p h r')) }
+asks_psu o = record { cost = λ j t e h r k p. let z : t ≡ suc j = omega (arith, e) in rw z (λ a r'. psu_answer a j h r' k (p h r')) }
 
 asks_charger : (o : Order) → Costs 1 (charger o)
-asks_charger o = record { cost = λ j t e h r k p. rw (the_one j t e) (λ a r'. charger_answer a j h r' k (p h r')) }
+asks_charger o = record { cost = λ j t e h r k p. let z : t ≡ suc j = omega (arith, e) in rw z (λ a r'. charger_answer a j h r' k (p h r')) }
 
 waits : {n : ℕ} {b : Action (Unit {0})} → Costs n b → Costs (1 + n) (await Order.Wait >> b)
-waits {n} c = record { cost = λ j t e h r k p. rw (the_one (n + j) t (omega arith)) (λ a r'. c.cost j (n + j) refl h r' k p) }
+waits {n} c = record { cost = λ j t e h r k p. let z : t ≡ suc (n + j) = omega (arith, e) in rw z (λ a r'. c.cost j (n + j) refl h r' k p) }
 
 -- tests and loops
 

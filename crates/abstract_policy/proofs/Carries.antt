@@ -3,7 +3,7 @@
 use Rattle.std.specs.Prelude.{None, Option, Some}
 use mathlib.Core.Path.{◌≡◌, refl, sym, ap, ◌∙◌}
 use mathlib.Core.Bool.{Bool, true, false}
-use mathlib.Core.List.{List, [], ◌∷◌, ◌++◌}
+use mathlib.Core.List.{[]}
 use Prim.Native.Nat.{ℕ, min}
 use Rattle.power_policy_interface.specs.Psu.{can_connect_provider_of}
 use Rattle.power_policy_interface.specs.declared.capability.DisconnectFlags.{DisconnectFlags}
@@ -27,10 +27,7 @@ use Rattle.abstract_policy.specs.declared.state.Records.{Records}
 use Rattle.abstract_policy.specs.declared.state.Registration.{Registration}
 use Rattle.abstract_policy.specs.declared.order.Order.{Order}
 use Rattle.abstract_policy.proofs.Logic.{From, SetsTo, TellsTo, connected_event, then, skips, sets, notifies, oks, asks_psu, unlesses, reads, forget, chargers_left, connects, disconnects, figures}
-
-applied_last : (l : List Event) (e : Event) (d : Display) → applied_all (l ++ (e ∷ [])) d ≡ applied_to (applied_all l d) e
-applied_last [] e d = refl
-applied_last (x ∷ l) e d = applied_last l e (applied_to d x)
+use Rattle.interface_display.proofs.Four.{applied_last}
 
 module _ (d : Display) where
   -- the consumer: changed first, told of later

@@ -10,32 +10,29 @@ use native.Mathlib.Omega.{arith}
 use lib.Dec.{ltb, eqb}
 use lib.ListN.{length}
 use borrow.Author.Tests.{ltb-true, eqb-true, eqb-false}
-use Rattle.power_policy_interface.proofs.Conjunction.{and_left, and_right}
+use Rattle.std.proofs.lemmas.Bool.{and_parts, both_ways}
 use Rattle.abstract_policy.specs.declared.order.Order.{Order}
 use Rattle.power_policy_service.specs.declared.config.Config.{Config}
 use Rattle.abstract_policy.specs.Refusals.{first_refused, order, place_from, rank, ascends_from, Ascending, Applies, First, Base, Lowest, start_refusals, open_conditions, answer_conditions, packet_conditions, picture_conditions}
-
-not_both : {A : Type 0} (b : Bool) → b ≡ true → b ≡ false → A
-not_both b e f = absurd (eqb-false 0 0 (sym e ∙ f) refl)
 
 -- whatever applies has a place after where the list begins
 above : (k : ℕ) (l : List (Bool × ℕ)) → ascends_from k l ≡ true → (m : ℕ) → Applies m l → k < rank m
 above k [] a m h = absurd h
 above k (r ∷ l) a m h =
-    let p : k < rank r.1 = ltb-true k (rank r.1) (and_left (ltb k (rank r.1)) (ascends_from (rank r.1) l) a) in
+    let p : k < rank r.1 = ltb-true k (rank r.1) (and_parts (ltb k (rank r.1)) (ascends_from (rank r.1) l) a).0 in
     let q : (j : ℕ) → Applies j l → rank r.1 < rank j =
-    λ j i. above (rank r.1) l (and_right (ltb k (rank r.1)) (ascends_from (rank r.1) l) a) j i in
+    λ j i. above (rank r.1) l (and_parts (ltb k (rank r.1)) (ascends_from (rank r.1) l) a).1 j i in
     ⊎_elim (λ i. subst (λ (n : ℕ). k < rank n) i.1 p) (λ i. omega (arith, p, q m i)) h
 
 first_from : (k : ℕ) (l : List (Bool × ℕ)) → ascends_from k l ≡ true → First l (first_refused l)
 first_from k [] a = record { applies = λ d. absurd (d refl); before = λ m h. absurd h; none = λ e m h. h; no_other = λ f. refl }
-first_from k (r ∷ l) a = go r.0 refl (first_from (rank r.1) l (and_right (ltb k (rank r.1)) (ascends_from (rank r.1) l) a))
+first_from k (r ∷ l) a = go r.0 refl (first_from (rank r.1) l (and_parts (ltb k (rank r.1)) (ascends_from (rank r.1) l) a).1)
   where
     placed : k < rank r.1
-    placed = ltb-true k (rank r.1) (and_left (ltb k (rank r.1)) (ascends_from (rank r.1) l) a)
+    placed = ltb-true k (rank r.1) (and_parts (ltb k (rank r.1)) (ascends_from (rank r.1) l) a).0
 
     later : (m : ℕ) → Applies m l → rank r.1 < rank m
-    later m h = above (rank r.1) l (and_right (ltb k (rank r.1)) (ascends_from (rank r.1) l) a) m h
+    later m h = above (rank r.1) l (and_parts (ltb k (rank r.1)) (ascends_from (rank r.1) l) a).1 m h
 
     -- 0 has no place
     some : r.1 ≡ 0 → ⊥
@@ -50,8 +47,8 @@ first_from k (r ∷ l) a = go r.0 refl (first_from (rank r.1) l (and_right (ltb 
     }
     go false e rest = record {
       applies = λ d. inr (rest.applies d);
-      before = λ m h. ⊎_elim (λ i. not_both r.0 i.0 e) (λ i. rest.before m i) h;
-      none = λ z m h. ⊎_elim (λ i. not_both r.0 i.0 e) (λ i. rest.none z m i) h;
+      before = λ m h. ⊎_elim (λ i. absurd (both_ways r.0 e i.0)) (λ i. rest.before m i) h;
+      none = λ z m h. ⊎_elim (λ i. absurd (both_ways r.0 e i.0)) (λ i. rest.none z m i) h;
       no_other = λ f. rest.no_other (λ m h. f m (inr h));
     }
 

@@ -1,6 +1,6 @@
 // What an event reads (the registration and the present records), and the state that it changes.
 ghost use Rattle.std.specs.Prelude.{◌≡◌};
-ghost use Rattle.abstract_policy.specs.State.{fresh_state, with_consumer, with_power_state, with_unconstrained, with_providers, display_of, psu_of, charger_unpowered};
+ghost use Rattle.abstract_policy.specs.State.{fresh_state, display_of, psu_of, charger_unpowered};
 
 use interface_display::providers::Providers;
 use interface_display::{AvailableConsumer, Display};
@@ -25,8 +25,8 @@ pub struct Records {
     pub chargers: [charger::State; MAX_CHARGERS as usize],
 }
 
-// The state of the service.
-#[derive(Clone, Copy)]
+// The state of the service; by default no consumer, unlimited, nothing unconstrained, no provider.
+#[derive(Clone, Copy, Default)]
 pub struct InternalState {
     // Current consumer state, if any.
     pub current_consumer_state: Option<AvailableConsumer>,
@@ -38,61 +38,7 @@ pub struct InternalState {
     pub connected_providers: Providers,
 }
 
-impl Default for InternalState {
-    ghost is_default = { λ s. s ≡ fresh_state };
-
-    // No consumer, unlimited, nothing unconstrained, no provider (InternalState::default).
-    fn default() -> Self {
-        InternalState {
-            current_consumer_state: None,
-            current_provider_state: PowerState::Unlimited,
-            unconstrained: UnconstrainedState {
-                unconstrained: false,
-                available: 0,
-            },
-            connected_providers: Providers::new(),
-        }
-    }
-}
-
-// One function for each field: which field it sets is no parameter.
 impl InternalState {
-    pub fn with_consumer(self, current_consumer_state: Option<AvailableConsumer>) -> InternalState
-        ensures { result ≡ with_consumer current_consumer_state self }
-    {
-        InternalState {
-            current_consumer_state,
-            ..self
-        }
-    }
-
-    pub fn with_power_state(self, current_provider_state: PowerState) -> InternalState
-        ensures { result ≡ with_power_state current_provider_state self }
-    {
-        InternalState {
-            current_provider_state,
-            ..self
-        }
-    }
-
-    pub fn with_unconstrained(self, unconstrained: UnconstrainedState) -> InternalState
-        ensures { result ≡ with_unconstrained unconstrained self }
-    {
-        InternalState {
-            unconstrained,
-            ..self
-        }
-    }
-
-    pub fn with_providers(self, connected_providers: Providers) -> InternalState
-        ensures { result ≡ with_providers connected_providers self }
-    {
-        InternalState {
-            connected_providers,
-            ..self
-        }
-    }
-
     // What the desk follows: consumer, unconstrained figures and tracked providers.
     pub fn display(self) -> Display
         ensures { result ≡ display_of self }

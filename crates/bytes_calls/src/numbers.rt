@@ -1,8 +1,8 @@
 // The 64-bit number that a C function returns: its low byte says what happened, the other bytes what belongs to it (docs/STATE.md).
-ghost use Rattle.std.specs.Prelude.{◌≡◌, Ok};
-ghost use Rattle.power_policy_interface.specs.Refusal.{refusal_number, numbered};
+ghost use Rattle.std.specs.Prelude.{◌≡◌};
+ghost use Rattle.power_policy_interface.specs.Refusal.{numbered};
 ghost use Rattle.abstract_calls.specs.Lent.{written_as};
-ghost use Rattle.abstract_calls.specs.Numbers.{packed, refused_number, bare_order, capability_order, order_number, closed_number, step_number, written_number, done_number, state_number, lost_number, shown_number, consumer_number, tracked_number};
+ghost use Rattle.abstract_calls.specs.Numbers.{packed, refused_number, bare_order, capability_order, order_number, closed_number, step_number, written_number, done_number, lost_number, shown_number, consumer_number, tracked_number};
 ghost use Rattle.bytes_calls.specs.Calls.{number_of};
 
 use abstract_policy::order::Order;
@@ -29,27 +29,28 @@ fn pack(what: u8, a: u8, b: u8, c: u8, d: u16, e: u16) -> u64
         + 281474976710656 * (e as u64)
 }
 
-pub fn refused(r: Refusal) -> u64
-    ensures { result ≡ refused_number (refusal_number r) }
+pub fn refused(number: u8) -> u64
+    ensures { result ≡ refused_number number }
 {
-    pack(0, u8::from(r), 0, 0, 0, 0)
+    pack(0, number, 0, 0, 0, 0)
 }
 
 // What a call returns: a number of its own, or that of what turns it back.
 pub fn number_of(answer: Result<u64, Refusal>) -> u64
     ensures { result ≡ number_of answer }
 {
-    answer.unwrap_or_else(refused)
+    answer.unwrap_or_else(|r| refused(u8::from(r)))
 }
 
-// An order without a capability.
+// An order without a capability. The kind is the byte that C reads (docs/STATE.md): an enum of the kinds would be `Order` without its fields, which `order`
+// matches once, giving each its byte.
 fn bare(kind: u8, device: u8) -> u64
     ensures { result ≡ bare_order kind device }
 {
     pack(1, kind, device, 0, 0, 0)
 }
 
-// An order with a capability.
+// An order with a capability, and its kind as in `bare`.
 fn with_capability(kind: u8, device: u8, flags: u8, c: PowerCapability) -> u64
     ensures { result ≡ capability_order kind device flags c }
 {
@@ -101,12 +102,13 @@ pub fn closed(answer: Result<(), psu::Error>, orders: u8) -> u64
     }
 }
 
-pub fn step(step: Step) -> u64
-    ensures { result ≡ step_number (Ok step) }
+pub fn step(step: Result<Step, Refusal>) -> u64
+    ensures { result ≡ step_number (numbered step) }
 {
     match step {
-        Step::Order(o) => order(o),
-        Step::Closed(answer, orders) => closed(answer, orders),
+        Ok(Step::Order(o)) => order(o),
+        Ok(Step::Closed(answer, orders)) => closed(answer, orders),
+        Err(r) => refused(u8::from(r)),
     }
 }
 
@@ -117,7 +119,7 @@ pub fn written(length: usize) -> u64
     pack(3, (length % 256) as u8, 0, 0, 0, 0)
 }
 
-// What writing into a buffer gave.
+// What writing into a buffer gave: a length, or what turned the write back, as in `number_of`.
 pub fn stored(w: Result<usize, Refusal>) -> u64
     ensures { result ≡ written_as (numbered w) }
 {
@@ -128,16 +130,6 @@ pub fn done() -> u64
     ensures { result ≡ done_number }
 {
     pack(4, 0, 0, 0, 0, 0)
-}
-
-fn state(state: State) -> u8
-    ensures { result ≡ state_number state }
-{
-    match state {
-        State::Lost => 0,
-        State::Level => 1,
-        State::Waiting => 2,
-    }
 }
 
 pub fn lost() -> u64
@@ -153,7 +145,7 @@ pub fn shown(s: State, p: Picture) -> u64
     let u = p.display.unconstrained;
     pack(
         5,
-        state(s),
+        u8::from(s),
         u.unconstrained as u8,
         u.available,
         (p.number % 65536) as u16,

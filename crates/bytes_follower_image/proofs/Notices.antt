@@ -30,14 +30,8 @@ use Rattle.bytes_groups.proofs.Quads.{Within}
 use Rattle.bytes_groups.proofs.Consumers.{GroupBytes, TaggedBytes, empty_bytes, consumer_bytes_lem, provider_bytes, consumer_within, provider_within, no_group_lem}
 use Rattle.bytes_follower_image.specs.Notice.{pair_group, notice_tagged, place_tagged, rest_zero, reason_read, consumer_read, provider_read, figures_fit, notice_cases, notice_from, is_zero, place_from}
 use Rattle.bytes_follower_image.specs.Slot.{notices_of}
-
-pub and_left : (a b : Bool) → a && b ≡ true → a ≡ true
-and_left true b e = refl
-and_left false b e = absurd (let z : ◌≡◌ {A = ℕ} 0 1 = cc in omega arith)
-
-pub and_right : (a b : Bool) → a && b ≡ true → b ≡ true
-and_right true b e = e
-and_right false b e = absurd (let z : ◌≡◌ {A = ℕ} 0 1 = cc in omega arith)
+use Rattle.power_policy_interface.proofs.Bits.{bit_lt, bit_written}
+use Rattle.std.proofs.lemmas.Bool.{and_parts, both_ways}
 
 -- reading what was written
 
@@ -50,11 +44,11 @@ figures_back false a h = rw h
 pub notice_back : (e : Event) → notice_fits e ≡ true → notice_from (notice_tagged e) ≡ Some e
 notice_back (Event.ConsumerDisconnected port f) h = rw h (ap (reason_read port) (reason_read_write f))
 notice_back (Event.ConsumerConnected port c) h =
-    let l = and_left (leb port 15) (capability_fits c.capability) h in
+    let l = (and_parts (leb port 15) (capability_fits c.capability) h).0 in
     rw l (ap (consumer_read port) (consumer_back port c))
 notice_back (Event.ProviderDisconnected port) h = rw h
 notice_back (Event.ProviderConnected port c) h =
-    let l = and_left (leb port 15) (capability_fits c.capability) h in
+    let l = (and_parts (leb port 15) (capability_fits c.capability) h).0 in
     rw l (ap (provider_read port) (provider_back port c))
 notice_back (Event.Unconstrained u) h = figures_back u.unconstrained u.available h
 
@@ -70,28 +64,28 @@ read_back n =
 list_back : (l : List Event) → length l ≤ 4 → notices_fit l ≡ true → read_back (rebuilt l) ≡ Some (rebuilt l)
 list_back [] k h = refl
 list_back (a ∷ []) k h =
-    let x = notice_back a (and_left (notice_fits a) _ h) in
+    let x = notice_back a (and_parts (notice_fits a) _ h).0 in
     rw x
 list_back (a ∷ b ∷ []) k h =
-    let h1 = and_right (notice_fits a) (notices_fit (b ∷ [])) h in
-    let x = notice_back a (and_left (notice_fits a) _ h) in
-    let y = notice_back b (and_left (notice_fits b) _ h1) in
+    let h1 = (and_parts (notice_fits a) (notices_fit (b ∷ [])) h).1 in
+    let x = notice_back a (and_parts (notice_fits a) _ h).0 in
+    let y = notice_back b (and_parts (notice_fits b) _ h1).0 in
     rw (x, y)
 list_back (a ∷ b ∷ c ∷ []) k h =
-    let h1 = and_right (notice_fits a) (notices_fit (b ∷ c ∷ [])) h in
-    let h2 = and_right (notice_fits b) (notices_fit (c ∷ [])) h1 in
-    let x = notice_back a (and_left (notice_fits a) _ h) in
-    let y = notice_back b (and_left (notice_fits b) _ h1) in
-    let z = notice_back c (and_left (notice_fits c) _ h2) in
+    let h1 = (and_parts (notice_fits a) (notices_fit (b ∷ c ∷ [])) h).1 in
+    let h2 = (and_parts (notice_fits b) (notices_fit (c ∷ [])) h1).1 in
+    let x = notice_back a (and_parts (notice_fits a) _ h).0 in
+    let y = notice_back b (and_parts (notice_fits b) _ h1).0 in
+    let z = notice_back c (and_parts (notice_fits c) _ h2).0 in
     rw (x, y, z)
 list_back (a ∷ b ∷ c ∷ d ∷ []) k h =
-    let h1 = and_right (notice_fits a) (notices_fit (b ∷ c ∷ d ∷ [])) h in
-    let h2 = and_right (notice_fits b) (notices_fit (c ∷ d ∷ [])) h1 in
-    let h3 = and_right (notice_fits c) (notices_fit (d ∷ [])) h2 in
-    let x = notice_back a (and_left (notice_fits a) _ h) in
-    let y = notice_back b (and_left (notice_fits b) _ h1) in
-    let z = notice_back c (and_left (notice_fits c) _ h2) in
-    let w = notice_back d (and_left (notice_fits d) _ h3) in
+    let h1 = (and_parts (notice_fits a) (notices_fit (b ∷ c ∷ d ∷ [])) h).1 in
+    let h2 = (and_parts (notice_fits b) (notices_fit (c ∷ d ∷ [])) h1).1 in
+    let h3 = (and_parts (notice_fits c) (notices_fit (d ∷ [])) h2).1 in
+    let x = notice_back a (and_parts (notice_fits a) _ h).0 in
+    let y = notice_back b (and_parts (notice_fits b) _ h1).0 in
+    let z = notice_back c (and_parts (notice_fits c) _ h2).0 in
+    let w = notice_back d (and_parts (notice_fits d) _ h3).0 in
     rw (x, y, z, w)
 list_back (a ∷ b ∷ c ∷ d ∷ e ∷ l) k h = absurd (omega arith)
 
@@ -121,7 +115,7 @@ pair_zero g e =
 
 reason_told : (g : Group) (e : Event) (o : Option DisconnectFlags) → disconnect_from g.v0 ≡ o → rest_zero g ≡ true → leb g.number 15 ≡ true
     → reason_read g.number o ≡ Some e → Noticed (record { tag = 1; group = g }) e
-reason_told g e None p r l q = absurd (let z : ◌≡◌ {A = ℕ} 0 1 = cc in omega arith)
+reason_told g e None p r l q = absurd (cc)
 reason_told g e (Some f) p r l q =
     told (record { tag = 1; group = g }) (Event.ConsumerDisconnected g.number f) e
     (record {
@@ -135,7 +129,7 @@ gone_told : (g : Group) (e : Event) (b : Bool) → rest_zero g ≡ b → leb g.n
     → cond b (reason_read g.number (disconnect_from g.v0)) None ≡ Some e
     → Noticed (record { tag = 1; group = g }) e
 gone_told g e true p l q = reason_told g e (disconnect_from g.v0) refl p l q
-gone_told g e false p l q = absurd (let z : ◌≡◌ {A = ℕ} 0 1 = cc in omega arith)
+gone_told g e false p l q = absurd (cc)
 
 contract_fits_lem : (port : ℕ) (c : PowerCapability) → leb port 15 ≡ true → Within c → leb port 15 && capability_fits c ≡ true
 contract_fits_lem port c l w =
@@ -143,7 +137,7 @@ contract_fits_lem port c l w =
 
 consumer_told : (g : Group) (e : Event) (o : Option ConsumerPowerCapability) → consumer_from g ≡ o → GroupBytes g → leb g.number 15 ≡ true
     → consumer_read g.number o ≡ Some e → Noticed (record { tag = 2; group = g }) e
-consumer_told g e None p h l q = absurd (let z : ◌≡◌ {A = ℕ} 0 1 = cc in omega arith)
+consumer_told g e None p h l q = absurd (cc)
 consumer_told g e (Some c) p h l q =
     told (record { tag = 2; group = g }) (Event.ConsumerConnected g.number c) e
     (record {
@@ -159,11 +153,11 @@ left_told g e true p l q =
     told (record { tag = 3; group = g }) (Event.ProviderDisconnected g.number) e
     (record { written = ap (λ (k : Group). record { tag = 3; group = k }) (zeros g p); fits = l })
     q
-left_told g e false p l q = absurd (let z : ◌≡◌ {A = ℕ} 0 1 = cc in omega arith)
+left_told g e false p l q = absurd (cc)
 
 provider_told : (g : Group) (e : Event) (o : Option ProviderPowerCapability) → provider_from g ≡ o → GroupBytes g → leb g.number 15 ≡ true
     → provider_read g.number o ≡ Some e → Noticed (record { tag = 4; group = g }) e
-provider_told g e None p h l q = absurd (let z : ◌≡◌ {A = ℕ} 0 1 = cc in omega arith)
+provider_told g e None p h l q = absurd (cc)
 provider_told g e (Some c) p h l q =
     told (record { tag = 4; group = g }) (Event.ProviderConnected g.number c) e
     (record {
@@ -172,42 +166,37 @@ provider_told g e (Some c) p h l q =
     })
     q
 
-bit_written : (n : ℕ) → n ≤ 1 → n ≡ bit (eqb n 1)
-bit_written zero h = refl
-bit_written (suc zero) h = refl
-bit_written (suc (suc n)) h = absurd (omega arith)
-
 figures_told : (g : Group) (e : Event) (b : Bool) → figures_fit g ≡ b
     → cond b (Some (Event.Unconstrained (record { unconstrained = eqb g.number 1; available = g.v0 }))) None
     ≡ Some e
     → Noticed (record { tag = 5; group = g }) e
 figures_told g e true p q =
-    let a = and_left (leb g.number 1) (leb g.v0 16 && rest_zero g) p in
-    let r = and_right (leb g.number 1) (leb g.v0 16 && rest_zero g) p in
+    let a = (and_parts (leb g.number 1) (leb g.v0 16 && rest_zero g) p).0 in
+    let r = (and_parts (leb g.number 1) (leb g.v0 16 && rest_zero g) p).1 in
     let x = bit_written g.number (leb-true g.number 1 a) in
     told (record { tag = 5; group = g }) (Event.Unconstrained (record { unconstrained = eqb g.number 1; available = g.v0 })) e
     (record {
       written = ap (λ (k : Group). record { tag = 5; group = k })
-          (pair_zero g (and_right (leb g.v0 16) (rest_zero g) r) ∙ ap (λ (n : ℕ). pair_group n g.v0) x);
-      fits = and_left (leb g.v0 16) (rest_zero g) r;
+          (pair_zero g (and_parts (leb g.v0 16) (rest_zero g) r).1 ∙ ap (λ (n : ℕ). pair_group n g.v0) x);
+      fits = (and_parts (leb g.v0 16) (rest_zero g) r).0;
     })
     q
-figures_told g e false p q = absurd (let z : ◌≡◌ {A = ℕ} 0 1 = cc in omega arith)
+figures_told g e false p q = absurd (cc)
 
 notice_at : (n : ℕ) (g : Group) (e : Event) → GroupBytes g → leb g.number 15 ≡ true
     → get_or (notice_cases g) n None ≡ Some e → Noticed (record { tag = n; group = g }) e
-notice_at zero g e h l q = absurd (let z : ◌≡◌ {A = ℕ} 0 1 = cc in omega arith)
+notice_at zero g e h l q = absurd (cc)
 notice_at (suc zero) g e h l q = gone_told g e (rest_zero g) refl l q
 notice_at (suc (suc zero)) g e h l q = consumer_told g e (consumer_from g) refl h l q
 notice_at (suc (suc (suc zero))) g e h l q = left_told g e (all_zero g) refl l q
 notice_at (suc (suc (suc (suc zero)))) g e h l q = provider_told g e (provider_from g) refl h l q
 notice_at (suc (suc (suc (suc (suc zero))))) g e h l q = figures_told g e (figures_fit g) refl q
-notice_at (suc (suc (suc (suc (suc (suc n)))))) g e h l q = absurd (let z : ◌≡◌ {A = ℕ} 0 1 = cc in omega arith)
+notice_at (suc (suc (suc (suc (suc (suc n)))))) g e h l q = absurd (cc)
 
 notice_tested : (t : Tagged) (e : Event) (b : Bool) → leb t.group.number 15 ≡ b → TaggedBytes t
     → cond b (get_or (notice_cases t.group) t.tag None) None ≡ Some e → Noticed t e
 notice_tested t e true l h q = notice_at t.tag t.group e h.group l q
-notice_tested t e false l h q = absurd (let z : ◌≡◌ {A = ℕ} 0 1 = cc in omega arith)
+notice_tested t e false l h q = absurd (cc)
 
 pub notice_read : (t : Tagged) (e : Event) → TaggedBytes t → notice_from t ≡ Some e → Noticed t e
 notice_read t e h q = notice_tested t e (leb t.group.number 15) refl h q
@@ -219,28 +208,24 @@ pub record Placed (count k : ℕ) (t : Tagged) (e : Event) : Type 0 where
   pub meant : ltb k count ≡ true → notice_fits e ≡ true
   pub past : ltb k count ≡ false → e ≡ filler
 
-differ : (b : Bool) → b ≡ true → b ≡ false → ⊥
-differ true p q = absurd (let z : ◌≡◌ {A = ℕ} 0 1 = cc in omega arith)
-differ false p q = absurd (let z : ◌≡◌ {A = ℕ} 0 1 = cc in omega arith)
-
 zero_tagged_lem : (t : Tagged) → is_zero t ≡ true → t ≡ record { tag = 0; group = empty_group 0 }
 zero_tagged_lem t e =
-    let a = eqb-true t.tag 0 (and_left (eqb t.tag 0) (no_group t.group) e) in
-    let b = no_group_lem t.group (and_right (eqb t.tag 0) (no_group t.group) e) in
+    let a = eqb-true t.tag 0 (and_parts (eqb t.tag 0) (no_group t.group) e).0 in
+    let b = no_group_lem t.group (and_parts (eqb t.tag 0) (no_group t.group) e).1 in
     λ i. record { tag = a i; group = b i }
 
 past_tested : (count k : ℕ) (t : Tagged) (e : Event) (b : Bool) → is_zero t ≡ b → ltb k count ≡ false
     → cond b (Some filler) None ≡ Some e → Placed count k t e
 past_tested count k t e true p l q =
     let f : filler ≡ e = cc in
-    record { written = rw l (zero_tagged_lem t p); meant = λ m. absurd (differ (ltb k count) m l); past = λ m. sym f }
-past_tested count k t e false p l q = absurd (let z : ◌≡◌ {A = ℕ} 0 1 = cc in omega arith)
+    record { written = rw l (zero_tagged_lem t p); meant = λ m. absurd (both_ways (ltb k count) l m); past = λ m. sym f }
+past_tested count k t e false p l q = absurd (cc)
 
 place_tested : (count k : ℕ) (t : Tagged) (e : Event) (b : Bool) → ltb k count ≡ b → TaggedBytes t
     → cond b (notice_from t) (cond (is_zero t) (Some filler) None) ≡ Some e → Placed count k t e
 place_tested count k t e true l h q =
     let n = notice_read t e h q in
-    record { written = rw l n.written; meant = λ m. n.fits; past = λ m. absurd (differ (ltb k count) l m) }
+    record { written = rw l n.written; meant = λ m. n.fits; past = λ m. absurd (both_ways (ltb k count) m l) }
 place_tested count k t e false l h q = past_tested count k t e (is_zero t) refl l q
 
 pub place_read : (count k : ℕ) (t : Tagged) (e : Event) → TaggedBytes t → place_from count k t ≡ Some e → Placed count k t e
@@ -277,15 +262,11 @@ pair_bytes a b x y = record {
 
 within : (port : ℕ) (c : PowerCapability) → leb port 15 && capability_fits c ≡ true → (port < 256) × Within c
 within port c h =
-    let l = leb-true port 15 (and_left (leb port 15) (capability_fits c) h) in
-    let r = and_right (leb port 15) (capability_fits c) h in
-    let v = leb-true c.voltage_mv 65535 (and_left (leb c.voltage_mv 65535) (leb c.current_ma 65535) r) in
-    let a = leb-true c.current_ma 65535 (and_right (leb c.voltage_mv 65535) (leb c.current_ma 65535) r) in
+    let l = leb-true port 15 (and_parts (leb port 15) (capability_fits c) h).0 in
+    let r = (and_parts (leb port 15) (capability_fits c) h).1 in
+    let v = leb-true c.voltage_mv 65535 (and_parts (leb c.voltage_mv 65535) (leb c.current_ma 65535) r).0 in
+    let a = leb-true c.current_ma 65535 (and_parts (leb c.voltage_mv 65535) (leb c.current_ma 65535) r).1 in
     (omega arith, record { mv = omega arith; ma = omega arith })
-
-bit_small : (u : Bool) → bit u < 256
-bit_small true = omega arith
-bit_small false = omega arith
 
 reason_small : (r : Option DisconnectReason) → reason_byte r < 256
 reason_small None = omega arith
@@ -308,4 +289,4 @@ notice_bytes_lem (Event.ProviderConnected port c) h =
     let w = within port c.capability h in
     record { tag = omega arith; group = provider_bytes port c w.0 w.1 }
 notice_bytes_lem (Event.Unconstrained u) h =
-    record { tag = omega arith; group = pair_bytes (bit u.unconstrained) u.available (bit_small u.unconstrained) (omega (arith, leb-true u.available 16 h)) }
+    record { tag = omega arith; group = pair_bytes (bit u.unconstrained) u.available (bit_lt u.unconstrained) (omega (arith, leb-true u.available 16 h)) }

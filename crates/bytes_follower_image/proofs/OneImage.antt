@@ -12,7 +12,7 @@ use native.Mathlib.Omega.{arith}
 use lib.Dec.{eqb, leb, ltb}
 use lib.ListN.{length, get_or, drop, replicate, length-drop}
 use lib.Seq.{drop-cons}
-use borrow.Author.Tests.{eqb-true, eqb-false, eq-eqb, leb-true, le-leb, lt-ltb, ltb-true, ltb-false}
+use borrow.Author.Tests.{eqb-true, eqb-false, eq-eqb, leb-true, le-leb, lt-ltb, ltb-true}
 use Rattle.power_policy_interface.specs.Limits.{largest}
 use Rattle.power_policy_interface.specs.Capability.{capability_fits}
 use Rattle.interface_records.specs.Row.{AllBytes}
@@ -29,7 +29,7 @@ use Rattle.desk_follower.specs.declared.Follower.{Follower}
 use Rattle.desk_follower.specs.declared.Shown.{Shown}
 use Rattle.desk_follower.specs.declared.held.Held.{Held}
 use Rattle.desk_follower.proofs.Kept.{mod8, none_at, fresh_kept}
-use Rattle.desk_follower.proofs.Decided.{decided, decides}
+use Rattle.desk_follower.proofs.Decided.{decided, decides, all_true, true_all}
 use Rattle.bytes_groups.specs.Quad.{quad_at, quad_bytes, number_quad, number_from}
 use Rattle.bytes_groups.specs.Shown.{shown_at, shown_bytes, display_shown, display_from}
 use Rattle.bytes_groups.proofs.Places as places
@@ -42,38 +42,14 @@ use Rattle.bytes_follower_image.specs.Slot.{zeros}
 use Rattle.bytes_follower_image.specs.Held.{held_bytes, held_from}
 use Rattle.bytes_follower_image.specs.Fits.{held_fits, shown_fits, image_fits}
 use Rattle.bytes_follower_image.specs.Image.{lost_bytes, showing_bytes, bytes_at, follower_bytes, port_fits, display_fits, showing_with, showing_of, showing_in, follower_cases, follower_from}
-use Rattle.bytes_follower_image.proofs.Notices.{and_left, and_right}
+use Rattle.std.proofs.lemmas.Bool.{and_parts, or_right}
 use Rattle.bytes_follower_image.proofs.Slots.{parts, Told, zeros_written, zero_bytes}
-use Rattle.bytes_follower_image.proofs.Rows.{row_length, row_below, row_back, row_restored, row_read, Rowed, owner, owned, not_owned, drop_bytes}
-
--- a test holds at each place
-
-place_tested : (t : ℕ → EventPacket → Bool) (k : ℕ) (h : Held) (i : ℕ) (b : Bool) → ltb i k ≡ b → i < suc k
-    → (i < k → t i (packet_at h i) ≡ true) → t k (packet_at h k) ≡ true → t i (packet_at h i) ≡ true
-place_tested t k h i true b l r e = r (ltb-true i k b)
-place_tested t k h i false b l r e =
-    let q : i ≡ k = omega (arith, l, ltb-false i k b) in
-    ap (λ (j : ℕ). t j (packet_at h j)) q ∙ e
-
-pub each_place : (t : ℕ → EventPacket → Bool) (k : ℕ) (h : Held) → all_places t k h ≡ true → (i : ℕ) → i < k → t i (packet_at h i) ≡ true
-unfolding all_places
-each_place t zero h e i l = absurd (omega arith)
-each_place t (suc k) h e i l =
-    place_tested t k h i (ltb i k) refl l (each_place t k h (and_left (all_places t k h) (t k (packet_at h k)) e) i)
-    (and_right (all_places t k h) (t k (packet_at h k)) e)
-
-pub all_places_lem : (t : ℕ → EventPacket → Bool) (k : ℕ) (h : Held) → ((i : ℕ) → i < k → t i (packet_at h i) ≡ true) → all_places t k h ≡ true
-unfolding all_places
-all_places_lem t zero h f = refl
-all_places_lem t (suc k) h f = rw (all_places_lem t k h (λ i l. f i (omega (arith, l))), f k (omega arith))
+use Rattle.bytes_follower_image.proofs.Rows.{row_length, row_below, row_back, row_restored, row_read, Rowed, owner, owned, not_owned}
+use Rattle.interface_records.proofs.OneRow.{drop_bytes}
 
 -- a packet that is held: None, or within what a packet has
 pub record Fit (p : EventPacket) : Type 0 where
   pub fit : (p ≡ held.none) ⊎ (event_fits p ≡ true)
-
-or_right : (a b : Bool) → b ≡ true → (a || b) ≡ true
-or_right true b e = refl
-or_right false b e = e
 
 pub fit_tested : (i : ℕ) (p : EventPacket) → Fit p → held_fits i p ≡ true
 fit_tested i p f = by f.fit
@@ -87,7 +63,7 @@ pub tested_fit : (lo hi i j : ℕ) (p : EventPacket) → 0 < lo → InPlace lo h
 tested_fit lo hi i j p l w e = by w (is_none p) refl
   where
     number-zero : is_none p ≡ true → p.number ≡ 0
-    number-zero q = eqb-true p.number 0 (and_left (eqb p.number 0) _ q)
+    number-zero q = eqb-true p.number 0 (and_parts (eqb p.number 0) _ q).0
 
     by : InPlace lo hi i p → (b : Bool) → is_none p ≡ b → Fit p
     by (inl z) b q = record { fit = inl z }
@@ -102,15 +78,15 @@ pub record Fits (x : Shown) (h : Held) : Type 0 where
 
 pub fits : (f : Follower) → image_fits f ≡ true → Fits f.shown f.held
 fits f e =
-    let r = and_right (well_formed f) (shown_fits f.shown && all_places held_fits 8 f.held) e in
+    let r = (and_parts (well_formed f) (shown_fits f.shown && all_places held_fits 8 f.held) e).1 in
     record {
-      formed = decided f (and_left (well_formed f) (shown_fits f.shown && all_places held_fits 8 f.held) e);
-      shown = and_left (shown_fits f.shown) (all_places held_fits 8 f.held) r;
-      places = each_place held_fits 8 f.held (and_right (shown_fits f.shown) (all_places held_fits 8 f.held) r);
+      formed = decided f (and_parts (well_formed f) (shown_fits f.shown && all_places held_fits 8 f.held) e).0;
+      shown = (and_parts (shown_fits f.shown) (all_places held_fits 8 f.held) r).0;
+      places = all_true held_fits 8 f.held (and_parts (shown_fits f.shown) (all_places held_fits 8 f.held) r).1;
     }
 
 pub fitted : (f : Follower) → Fits f.shown f.held → image_fits f ≡ true
-fitted f h = rw (decides f h.formed, h.shown, all_places_lem held_fits 8 f.held h.places)
+fitted f h = rw (decides f h.formed, h.shown, true_all held_fits 8 f.held h.places)
 
 -- a picture by its parts
 pub record Pictured (n : ℕ) (d : Display) : Type 0 where
@@ -127,15 +103,15 @@ picture_parts s e =
     let f3 = ltb d.providers.mask 65536 && leb (len d.providers) 4 in
     let f2 = leb d.unconstrained.available 16 && f3 in
     let f1 = consumer_fits d.consumer && f2 in
-    let h1 = and_right (leb s.number largest) f1 e in
-    let h2 = and_right (consumer_fits d.consumer) f2 h1 in
-    let h3 = and_right (leb d.unconstrained.available 16) f3 h2 in
+    let h1 = (and_parts (leb s.number largest) f1 e).1 in
+    let h2 = (and_parts (consumer_fits d.consumer) f2 h1).1 in
+    let h3 = (and_parts (leb d.unconstrained.available 16) f3 h2).1 in
     record {
-      number = leb-true s.number largest (and_left (leb s.number largest) f1 e);
-      consumer = and_left (consumer_fits d.consumer) f2 h1;
-      available = leb-true d.unconstrained.available 16 (and_left (leb d.unconstrained.available 16) f3 h2);
-      mask = ltb-true d.providers.mask 65536 (and_left (ltb d.providers.mask 65536) (leb (len d.providers) 4) h3);
-      few = leb-true (len d.providers) 4 (and_right (ltb d.providers.mask 65536) (leb (len d.providers) 4) h3);
+      number = leb-true s.number largest (and_parts (leb s.number largest) f1 e).0;
+      consumer = (and_parts (consumer_fits d.consumer) f2 h1).0;
+      available = leb-true d.unconstrained.available 16 (and_parts (leb d.unconstrained.available 16) f3 h2).0;
+      mask = ltb-true d.providers.mask 65536 (and_parts (ltb d.providers.mask 65536) (leb (len d.providers) 4) h3).0;
+      few = leb-true (len d.providers) 4 (and_parts (ltb d.providers.mask 65536) (leb (len d.providers) 4) h3).1;
     }
 
 pub picture_whole : (n : ℕ) (d : Display) → Pictured n d → picture_fits (at n d) ≡ true
@@ -153,16 +129,16 @@ picture_whole n d h =
 
 port_tested : (c : Option AvailableConsumer) → consumer_fits c ≡ true → port_fits c ≡ true
 port_tested None e = refl
-port_tested (Some c) e = and_left (leb c.psu 15) (capability_fits c.consumer_power_capability.capability) e
+port_tested (Some c) e = (and_parts (leb c.psu 15) (capability_fits c.consumer_power_capability.capability) e).0
 
 consumer_within : (c : Option AvailableConsumer) → consumer_fits c ≡ true → ConsumerWithin c
 consumer_within None e = tt
 consumer_within (Some c) e =
     let p = c.consumer_power_capability.capability in
-    let l = leb-true c.psu 15 (and_left (leb c.psu 15) (capability_fits p) e) in
-    let r = and_right (leb c.psu 15) (capability_fits p) e in
-    let v = leb-true p.voltage_mv 65535 (and_left (leb p.voltage_mv 65535) (leb p.current_ma 65535) r) in
-    let a = leb-true p.current_ma 65535 (and_right (leb p.voltage_mv 65535) (leb p.current_ma 65535) r) in
+    let l = leb-true c.psu 15 (and_parts (leb c.psu 15) (capability_fits p) e).0 in
+    let r = (and_parts (leb c.psu 15) (capability_fits p) e).1 in
+    let v = leb-true p.voltage_mv 65535 (and_parts (leb p.voltage_mv 65535) (leb p.current_ma 65535) r).0 in
+    let a = leb-true p.current_ma 65535 (and_parts (leb p.voltage_mv 65535) (leb p.current_ma 65535) r).1 in
     (omega (arith, l), record { mv = omega (arith, v); ma = omega (arith, a) })
 
 consumer_fits_lem : (c : Option AvailableConsumer) → port_fits c ≡ true → ConsumerWithin c → consumer_fits c ≡ true
@@ -182,13 +158,13 @@ display_within n d h =
 display_pictured : (n : ℕ) (d : Display) → n ≤ largest → display_fits d ≡ true → DisplayWithin d → Pictured n d
 display_pictured n d l e w =
     let f = leb d.unconstrained.available 16 && leb (len d.providers) 4 in
-    let r = and_right (port_fits d.consumer) f e in
+    let r = (and_parts (port_fits d.consumer) f e).1 in
     record {
       number = l;
-      consumer = consumer_fits_lem d.consumer (and_left (port_fits d.consumer) f e) w.consumer;
-      available = leb-true d.unconstrained.available 16 (and_left (leb d.unconstrained.available 16) (leb (len d.providers) 4) r);
+      consumer = consumer_fits_lem d.consumer (and_parts (port_fits d.consumer) f e).0 w.consumer;
+      available = leb-true d.unconstrained.available 16 (and_parts (leb d.unconstrained.available 16) (leb (len d.providers) 4) r).0;
       mask = w.mask;
-      few = leb-true (len d.providers) 4 (and_right (leb d.unconstrained.available 16) (leb (len d.providers) 4) r);
+      few = leb-true (len d.providers) 4 (and_parts (leb d.unconstrained.available 16) (leb (len d.providers) 4) r).1;
     }
 
 -- what is held when n is shown
@@ -297,7 +273,7 @@ lost_tested b f true z a e x y q =
       places = λ i m. fit_tested i (packet_at nothing i) (record { fit = inl (none_at 8 i) });
     } in
     subst (λ (h : Follower). Written b h) k (record { bytes = sym (g ∙ v); fits = fitted (lost n) c })
-lost_tested b f false z a e x y q = absurd (let z : ◌≡◌ {A = ℕ} 0 1 = cc in omega arith)
+lost_tested b f false z a e x y q = absurd (cc)
 
 module _ (b : List ℕ) (a : AllBytes b) (e : length b ≡ 241) where
   -- each place is that of the next event, which stays empty, or of one that was read
@@ -350,7 +326,7 @@ module _ (b : List ℕ) (a : AllBytes b) (e : length b ≡ 241) where
 
   held_case : (d : Display) (m : Option Held) (f : Follower) → get_or b 0 0 ≡ 2 → get_or b 1 0 ≡ 1 → Displayed (shown_at b 6) d → display_fits d ≡ true
       → held_from (number_from (quad_at b 2)) (drop 17 b) ≡ m → showing_with (at (number_from (quad_at b 2)) d) m ≡ Some f → Written b f
-  held_case d None f x y o t r q = absurd (let z : ◌≡◌ {A = ℕ} 0 1 = cc in omega arith)
+  held_case d None f x y o t r q = absurd (cc)
   held_case d (Some h) f x y o t r q =
       let k : showing (at (number_from (quad_at b 2)) d) h ≡ f = cc in
       let l : length (drop 17 b) ≡ 7 * 32 = length-drop 17 b ∙ omega (arith, e) in
@@ -361,25 +337,25 @@ module _ (b : List ℕ) (a : AllBytes b) (e : length b ≡ 241) where
   fits_case : (d : Display) (f : Follower) (t : Bool) → display_fits d ≡ t → get_or b 0 0 ≡ 2 → get_or b 1 0 ≡ 1 → Displayed (shown_at b 6) d
       → cond t (showing_with (at (number_from (quad_at b 2)) d) (held_from (number_from (quad_at b 2)) (drop 17 b))) None ≡ Some f → Written b f
   fits_case d f true t x y o q = held_case d (held_from (number_from (quad_at b 2)) (drop 17 b)) f x y o t refl q
-  fits_case d f false t x y o q = absurd (let z : ◌≡◌ {A = ℕ} 0 1 = cc in omega arith)
+  fits_case d f false t x y o q = absurd (cc)
 
   display_case : (r : Option Display) (f : Follower) → display_from (shown_at b 6) ≡ r → get_or b 0 0 ≡ 2 → get_or b 1 0 ≡ 1
       → showing_of (number_from (quad_at b 2)) r (held_from (number_from (quad_at b 2)) (drop 17 b)) ≡ Some f → Written b f
-  display_case None f r x y q = absurd (let z : ◌≡◌ {A = ℕ} 0 1 = cc in omega arith)
+  display_case None f r x y q = absurd (cc)
   display_case (Some d) f r x y q =
       fits_case d f (display_fits d) refl x y (display_read (shown_at b 6) d (shown_at_lem b 6 a) r) q
 
   kind_case : (k : ℕ) (f : Follower) → get_or b 1 0 ≡ k → get_or b 0 0 ≡ 2 → get_or (follower_cases b) k None ≡ Some f → Written b f
   kind_case zero f y x q = lost_tested b f (zeros (drop 6 b)) refl a e x y q
   kind_case (suc zero) f y x q = display_case (display_from (shown_at b 6)) f refl x y q
-  kind_case (suc (suc k)) f y x q = absurd (let z : ◌≡◌ {A = ℕ} 0 1 = cc in omega arith)
+  kind_case (suc (suc k)) f y x q = absurd (cc)
 
 written_tested : (b : List ℕ) (f : Follower) (s t : Bool) → eqb (length b) 241 ≡ s → eqb (get_or b 0 0) 2 ≡ t → AllBytes b
     → cond (s && t) (get_or (follower_cases b) (get_or b 1 0) None) None ≡ Some f → Written b f
 written_tested b f true true p r a q =
     kind_case b a (eqb-true (length b) 241 p) (get_or b 1 0) f refl (eqb-true (get_or b 0 0) 2 r) q
-written_tested b f true false p r a q = absurd (let z : ◌≡◌ {A = ℕ} 0 1 = cc in omega arith)
-written_tested b f false t p r a q = absurd (let z : ◌≡◌ {A = ℕ} 0 1 = cc in omega arith)
+written_tested b f true false p r a q = absurd (cc)
+written_tested b f false t p r a q = absurd (cc)
 
 written_so : (b : List ℕ) (f : Follower) → AllBytes b → follower_from b ≡ Some f → Written b f
 written_so b f a e = written_tested b f (eqb (length b) 241) (eqb (get_or b 0 0) 2) refl refl a e

@@ -2,16 +2,18 @@
 -- again, and a place that no slot is put into stays.
 -- Assumes nothing.
 use Rattle.std.specs.Prelude.{None, Option, Some}
+use Rattle.std.specs.List.{list_all, enumerate_from}
+use Rattle.std.specs.Simd.{first_chunks}
 use mathlib.Core.Path.{◌≡◌, refl, ap, sym, subst, ◌∙◌}
-use mathlib.Core.Bool.{Bool, true, false}
+use mathlib.Core.Bool.{Bool, true, false, ◌&&◌}
 use mathlib.Core.List.{List, [], ◌∷◌, ◌++◌}
 use Prim.Native.Nat.{ℕ, zero, suc, ◌+◌, ◌*◌, ◌-◌, ◌%◌, ◌≤◌, ◌<◌}
 use native.Mathlib.Nat.{suc-mul}
 use native.Mathlib.Omega.{arith}
-use lib.Dec.{eqb, ltb, lit<}
-use lib.ListN.{length, get_or, take, drop, length-append, length-set, length-drop, length-take, take-append-drop, get_or-eq_default}
-use lib.Seq.{take_at, drop_at, drop-drop, get_or-drop, get_or-take, get_or-set_same, get_or-set_other, length-take-le, ext_get_or}
-use borrow.Author.Tests.{eqb-true, eqb-false, ltb-true, ltb-false}
+use lib.Dec.{eqb}
+use lib.ListN.{length, take, drop, length-append, length-set, length-drop, take-append-drop}
+use lib.Seq.{take_at, drop_at, get_or-set_same, get_or-set_other, length-take-le, ext_get_or}
+use borrow.Author.Tests.{eqb-true, eqb-false}
 use Rattle.interface_records.specs.Row.{AllBytes, written}
 use Rattle.interface_display.specs.declared.packet.EventPacket.{EventPacket}
 use Rattle.desk_follower.specs.Held as held
@@ -22,6 +24,7 @@ use Rattle.bytes_groups.proofs.Places as places
 use Rattle.bytes_groups.proofs.Places.{Below}
 use Rattle.bytes_follower_image.specs.Slot.{slot_bytes, slot_from, is_read}
 use Rattle.bytes_follower_image.specs.Held.{slots, slot_then, slots_from, is_held}
+use Rattle.interface_records.proofs.OneRow.{drop_bytes, take_bytes_lem}
 use Rattle.bytes_follower_image.proofs.Slots.{Told, slot_length, slot_back, slot_read, slot_below}
 
 -- event m and the k - 1 after it have places of their own
@@ -114,18 +117,6 @@ row_restored n h e z =
 
 -- what was read was written so
 
-pub drop_bytes : (w : ℕ) (s : List ℕ) → AllBytes s → AllBytes (drop w s)
-drop_bytes w s h k = rw get_or-drop (h (w + k))
-
-take_tested : (w : ℕ) (s : List ℕ) (k : ℕ) (t : Bool) → ltb k w ≡ t → AllBytes s → get_or (take w s) k 0 < 256
-take_tested w s k true e h = rw (get_or-take w s k 0 (ltb-true k w e)) (h k)
-take_tested w s k false e h =
-    let q : length (take w s) ≤ k = rw length-take (omega (arith, ltb-false k w e)) in
-    rw (get_or-eq_default (take w s) 0 q) (lit< tt)
-
-take_bytes_lem : (w : ℕ) (s : List ℕ) → AllBytes s → AllBytes (take w s)
-take_bytes_lem w s h k = take_tested w s k (ltb k w) refl h
-
 -- k slots from event m on, read over h
 pub record Rowed (m k : ℕ) (s : List ℕ) (h g : Held) : Type 0 where
   pub bytes : s ≡ written slot_bytes (slots m k g)
@@ -169,7 +160,7 @@ one_rowed m k s h g p l c a e z q r =
 
 then_told : (x : Option EventPacket) (f : EventPacket → Option Held) (g : Held) → slot_then x f ≡ Some g
     → (p : EventPacket) × (x ≡ Some p) × (f p ≡ Some g)
-then_told None f g e = absurd (let z : ◌≡◌ {A = ℕ} 0 1 = cc in omega arith)
+then_told None f g e = absurd (cc)
 then_told (Some p) f g e = (p, refl, e)
 
 pub row_read : (m k : ℕ) (s : List ℕ) (h g : Held) → 0 < m → k ≤ 8 → AllBytes s → length s ≡ k * 32 → length h.packets ≡ 8
@@ -182,58 +173,18 @@ row_read m (suc k) s h g l c a e z q =
     (length-set h.packets (m % 8) t.0 ∙ z) t.2 in
     one_rowed m k s h g t.0 l c a e z t.1 r
 
--- the loop over the row
+-- the slots are tested in turn; whether they are slots does not rest on what they are put into
 
-pub slots_start : (m k : ℕ) (s : List ℕ) (h : Held) → slots_from m k s h ≡ slots_from (m + 0) (k - 0) (drop (0 * 32) s) h
-slots_start m k s h =
-    let a : m + 0 ≡ m = omega arith in
-    let b : k - 0 ≡ k = omega arith in
-    rw (a, b)
+then_tested : (x : Option EventPacket) (r : Bool) (f : EventPacket → Option Held) → ((p : EventPacket) → r ≡ is_held (f p))
+    → (is_read x && r) ≡ is_held (slot_then x f)
+then_tested None r f e = refl
+then_tested (Some p) r f e = e p
 
-module _ (m k : ℕ) (s : List ℕ) (h : Held) where
-  next_slot : (i : ℕ) → i < k → slots_from (m + i) (k - i) (drop (i * 32) s) h
-      ≡ slot_then (slot_from (m + i) (take 32 (drop (i * 32) s)))
-      (λ p. slots_from (m + (i + 1)) (k - (i + 1)) (drop ((i + 1) * 32) s) (put h ((m + i) % 8) p))
-  next_slot i l =
-      let a : k - i ≡ suc (k - (i + 1)) = omega (arith, l) in
-      let b : (i + 1) * 32 ≡ i * 32 + 32 = omega arith in
-      let c : m + (i + 1) ≡ suc (m + i) = omega arith in
-      rw (a, b, c, ← drop-drop 32 (i * 32) s)
-
-  pub slot_taken : (i : ℕ) (p : EventPacket) → i < k → slot_from (m + i) (take 32 (drop (i * 32) s)) ≡ Some p
-      → slots_from (m + i) (k - i) (drop (i * 32) s) h
-      ≡ slots_from (m + (i + 1)) (k - (i + 1)) (drop ((i + 1) * 32) s) (put h ((m + i) % 8) p)
-  slot_taken i p l e =
-      next_slot i l
-      ∙ ap (λ (x : Option EventPacket). slot_then x (λ q. slots_from (m + (i + 1)) (k - (i + 1)) (drop ((i + 1) * 32) s) (put h ((m + i) % 8) q))) e
-
-  pub slot_refused : (i : ℕ) → i < k → slot_from (m + i) (take 32 (drop (i * 32) s)) ≡ None
-      → slots_from (m + i) (k - i) (drop (i * 32) s) h ≡ None
-  slot_refused i l e =
-      next_slot i l
-      ∙ ap (λ (x : Option EventPacket). slot_then x (λ q. slots_from (m + (i + 1)) (k - (i + 1)) (drop ((i + 1) * 32) s) (put h ((m + i) % 8) q))) e
-
-  pub slots_end : (i : ℕ) → k ≤ i → slots_from (m + i) (k - i) (drop (i * 32) s) h ≡ Some h
-  slots_end i l =
-      let a : k - i ≡ 0 = omega (arith, l) in
-      rw a
-
--- whether the slots are slots does not rest on what they are put into
-
-free_then : (x : Option EventPacket) (f g : EventPacket → Option Held) → ((p : EventPacket) → is_held (f p) ≡ is_held (g p)) → is_held (slot_then x f) ≡ is_held (slot_then x g)
-free_then None f g e = refl
-free_then (Some p) f g e = e p
-
-pub slots_free : (m k : ℕ) (s : List ℕ) (h g : Held) → is_held (slots_from m k s h) ≡ is_held (slots_from m k s g)
-slots_free m zero s h g = refl
-slots_free m (suc k) s h g =
-    free_then (slot_from m (take 32 s)) (λ p. slots_from (suc m) k (drop 32 s) (put h (m % 8) p))
-    (λ p. slots_from (suc m) k (drop 32 s) (put g (m % 8) p)) (λ p. slots_free (suc m) k (drop 32 s) (put h (m % 8) p) (put g (m % 8) p))
-
-pub slot_is_read : (x : Option EventPacket) → is_read x ≡ true → (p : EventPacket) × (x ≡ Some p)
-slot_is_read None e = absurd (let z : ◌≡◌ {A = ℕ} 0 1 = cc in omega arith)
-slot_is_read (Some p) e = (p, refl)
-
-pub slot_is_refused : (x : Option EventPacket) → is_read x ≡ false → x ≡ None
-slot_is_refused None e = refl
-slot_is_refused (Some p) e = absurd (let z : ◌≡◌ {A = ℕ} 0 1 = cc in omega arith)
+pub slots_tested : (m k i : ℕ) (s : List ℕ) (h : Held)
+    → list_all (λ p. is_read (slot_from (m + p.0) p.1)) (enumerate_from i (first_chunks 32 k s)) ≡ is_held (slots_from (m + i) k s h)
+slots_tested m zero i s h = refl
+slots_tested m (suc k) i s h =
+    let e : m + (i + 1) ≡ suc (m + i) = omega arith in
+    then_tested (slot_from (m + i) (take 32 s)) _ (λ p. slots_from (suc (m + i)) k (drop 32 s) (put h ((m + i) % 8) p))
+    (λ p. slots_tested m k (i + 1) (drop 32 s) (put h ((m + i) % 8) p)
+    ∙ ap (λ (j : ℕ). is_held (slots_from j k (drop 32 s) (put h ((m + i) % 8) p))) e)

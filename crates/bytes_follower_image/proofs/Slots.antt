@@ -28,7 +28,8 @@ use Rattle.interface_records.proofs.OneRecord.{gets, gets_all}
 use Rattle.bytes_groups.proofs.Consumers.{TaggedBytes, tagged_at_lem, tagged_bytes_lem, empty_bytes}
 use Rattle.bytes_follower_image.specs.Notice.{place_tagged, place_from}
 use Rattle.bytes_follower_image.specs.Slot.{notices_bytes, packet_bytes, slot_bytes, notices_of, notices_from, packet_of, head_fits, packet_from, zeros, slot_cases, slot_from}
-use Rattle.bytes_follower_image.proofs.Notices.{and_left, and_right, read_back, notices_back, place_read, Formed, formed, notice_bytes_lem}
+use Rattle.bytes_follower_image.proofs.Notices.{read_back, notices_back, place_read, Formed, formed, notice_bytes_lem}
+use Rattle.std.proofs.lemmas.Bool.{and_parts}
 
 -- the parts of a packet that fits
 pub record Parts (p : EventPacket) : Type 0 where
@@ -46,17 +47,17 @@ parts p h =
     let f3 = leb p.orders 35 && f4 in
     let f2 = leb p.answer 10 && f3 in
     let f1 = leb p.number largest && f2 in
-    let h1 = and_right (ltb 0 p.number) f1 h in
-    let h2 = and_right (leb p.number largest) f2 h1 in
-    let h3 = and_right (leb p.answer 10) f3 h2 in
-    let h4 = and_right (leb p.orders 35) f4 h3 in
+    let h1 = (and_parts (ltb 0 p.number) f1 h).1 in
+    let h2 = (and_parts (leb p.number largest) f2 h1).1 in
+    let h3 = (and_parts (leb p.answer 10) f3 h2).1 in
+    let h4 = (and_parts (leb p.orders 35) f4 h3).1 in
     record {
-      positive = ltb-true 0 p.number (and_left (ltb 0 p.number) f1 h);
-      number = and_left (leb p.number largest) f2 h1;
-      answer = and_left (leb p.answer 10) f3 h2;
-      orders = and_left (leb p.orders 35) f4 h3;
-      form = and_left (padded p.notices) (notices_fit (listed p.notices)) h4;
-      fits = and_right (padded p.notices) (notices_fit (listed p.notices)) h4;
+      positive = ltb-true 0 p.number (and_parts (ltb 0 p.number) f1 h).0;
+      number = (and_parts (leb p.number largest) f2 h1).0;
+      answer = (and_parts (leb p.answer 10) f3 h2).0;
+      orders = (and_parts (leb p.orders 35) f4 h3).0;
+      form = (and_parts (padded p.notices) (notices_fit (listed p.notices)) h4).0;
+      fits = (and_parts (padded p.notices) (notices_fit (listed p.notices)) h4).1;
     }
 
 pub whole : (p : EventPacket) → Parts p → event_fits p ≡ true
@@ -86,7 +87,7 @@ places_left n k (suc j) = tagged_bytes (place_tagged n.count k (get_or n.events 
 packet_back : (m : ℕ) (p : EventPacket) → p.number ≡ m → event_fits p ≡ true → packet_from m (packet_bytes p) ≡ Some p
 packet_back m p e h =
     let k = parts p h in
-    let c = and_left (leb p.notices.count 4) _ k.form in
+    let c = (and_parts (leb p.notices.count 4) _ k.form).0 in
     let n : leb m largest ≡ true = ap (λ (x : ℕ). leb x largest) (sym e) ∙ k.number in
     let r : read_back p.notices ≡ Some p.notices = notices_back p.notices k.form k.fits in
     let f : head_fits m p.answer p.orders p.notices.count ≡ true = rw (n, k.answer, k.orders, c) in
@@ -112,8 +113,8 @@ pub zeros_written : (s : List ℕ) → zeros s ≡ true → s ≡ replicate (len
 unfolding zeros
 zeros_written [] e = refl
 zeros_written (b ∷ s) e =
-    let x = eqb-true b 0 (and_left (eqb b 0) (zeros s) e) in
-    let y = zeros_written s (and_right (eqb b 0) (zeros s) e) in
+    let x = eqb-true b 0 (and_parts (eqb b 0) (zeros s) e).0 in
+    let y = zeros_written s (and_parts (eqb b 0) (zeros s) e).1 in
     λ i. x i ∷ y i
 
 -- four tagged groups, read as notices
@@ -125,13 +126,13 @@ record Read (count : ℕ) (a b c d : Tagged) (n : Notices) : Type 0 where
 notices_read_lem : (count : ℕ) (a b c d : Tagged) (n : Notices) (x y z w : Option Event) → count ≤ 4 → TaggedBytes a → TaggedBytes b → TaggedBytes c
     → TaggedBytes d → place_from count 0 a ≡ x → place_from count 1 b ≡ y → place_from count 2 c ≡ z → place_from count 3 d ≡ w
     → notices_of count x y z w ≡ Some n → Read count a b c d n
-notices_read_lem count a b c d n None y z w l ha hb hc hd p q r s e = absurd (let z : ◌≡◌ {A = ℕ} 0 1 = cc in omega arith)
+notices_read_lem count a b c d n None y z w l ha hb hc hd p q r s e = absurd (cc)
 notices_read_lem count a b c d n (Some u) None z w l ha hb hc hd p q r s e =
-    absurd (let z : ◌≡◌ {A = ℕ} 0 1 = cc in omega arith)
+    absurd (cc)
 notices_read_lem count a b c d n (Some u) (Some v) None w l ha hb hc hd p q r s e =
-    absurd (let z : ◌≡◌ {A = ℕ} 0 1 = cc in omega arith)
+    absurd (cc)
 notices_read_lem count a b c d n (Some u) (Some v) (Some x) None l ha hb hc hd p q r s e =
-    absurd (let z : ◌≡◌ {A = ℕ} 0 1 = cc in omega arith)
+    absurd (cc)
 notices_read_lem count a b c d n (Some u) (Some v) (Some x) (Some y) l ha hb hc hd p q r s e =
     let k : record { count = count; events = u ∷ v ∷ x ∷ y ∷ [] } ≡ n = cc in
     let pa = place_read count 0 a u ha p in
@@ -159,16 +160,16 @@ packet_made : (m : ℕ) (s : List ℕ) (p : EventPacket) (n : Notices) → 0 < m
     → Read (get_or s 3 0) (tagged_at s 4) (tagged_at s 11) (tagged_at s 18) (tagged_at s 25) n
     → record { number = m; answer = get_or s 1 0; orders = get_or s 2 0; notices = n } ≡ p → Slotted m s p
 packet_made m s p n l e one f r k =
-    let f1 = and_right (leb m largest) (leb (get_or s 1 0) 10 && (leb (get_or s 2 0) 35 && leb (get_or s 3 0) 4)) f in
-    let f2 = and_right (leb (get_or s 1 0) 10) (leb (get_or s 2 0) 35 && leb (get_or s 3 0) 4) f1 in
+    let f1 = (and_parts (leb m largest) (leb (get_or s 1 0) 10 && (leb (get_or s 2 0) 35 && leb (get_or s 3 0) 4)) f).1 in
+    let f2 = (and_parts (leb (get_or s 1 0) 10) (leb (get_or s 2 0) 35 && leb (get_or s 3 0) 4) f1).1 in
     let x : EventPacket = record { number = m; answer = get_or s 1 0; orders = get_or s 2 0; notices = n } in
     let w : event_fits x ≡ true =
     whole x
     (record {
       positive = l;
-      number = and_left (leb m largest) _ f;
-      answer = and_left (leb (get_or s 1 0) 10) _ f1;
-      orders = and_left (leb (get_or s 2 0) 35) _ f2;
+      number = (and_parts (leb m largest) _ f).0;
+      answer = (and_parts (leb (get_or s 1 0) 10) _ f1).0;
+      orders = (and_parts (leb (get_or s 2 0) 35) _ f2).0;
       form = r.formed.form;
       fits = r.formed.fits;
     }) in
@@ -183,11 +184,11 @@ packet_made m s p n l e one f r k =
 packet_told : (m : ℕ) (s : List ℕ) (p : EventPacket) (r : Option Notices) → notices_from (get_or s 3 0) s ≡ r → 0 < m → AllBytes s → length s ≡ 32
     → get_or s 0 0 ≡ 1 → head_fits m (get_or s 1 0) (get_or s 2 0) (get_or s 3 0) ≡ true
     → packet_of m (get_or s 1 0) (get_or s 2 0) r ≡ Some p → Slotted m s p
-packet_told m s p None q l h e one f k = absurd (let z : ◌≡◌ {A = ℕ} 0 1 = cc in omega arith)
+packet_told m s p None q l h e one f k = absurd (cc)
 packet_told m s p (Some n) q l h e one f k =
-    let f1 = and_right (leb m largest) (leb (get_or s 1 0) 10 && (leb (get_or s 2 0) 35 && leb (get_or s 3 0) 4)) f in
-    let f2 = and_right (leb (get_or s 1 0) 10) (leb (get_or s 2 0) 35 && leb (get_or s 3 0) 4) f1 in
-    let c = leb-true (get_or s 3 0) 4 (and_right (leb (get_or s 2 0) 35) (leb (get_or s 3 0) 4) f2) in
+    let f1 = (and_parts (leb m largest) (leb (get_or s 1 0) 10 && (leb (get_or s 2 0) 35 && leb (get_or s 3 0) 4)) f).1 in
+    let f2 = (and_parts (leb (get_or s 1 0) 10) (leb (get_or s 2 0) 35 && leb (get_or s 3 0) 4) f1).1 in
+    let c = leb-true (get_or s 3 0) 4 (and_parts (leb (get_or s 2 0) 35) (leb (get_or s 3 0) 4) f2).1 in
     let j : record { number = m; answer = get_or s 1 0; orders = get_or s 2 0; notices = n } ≡ p = cc in
     packet_made m s p n l e one f
     (notices_read_lem (get_or s 3 0) (tagged_at s 4) (tagged_at s 11) (tagged_at s 18) (tagged_at s 25) n (place_from (get_or s 3 0) 0 (tagged_at s 4))
@@ -199,7 +200,7 @@ packet_tested : (m : ℕ) (s : List ℕ) (p : EventPacket) (b : Bool) → head_f
     → length s ≡ 32 → get_or s 0 0 ≡ 1
     → cond b (packet_of m (get_or s 1 0) (get_or s 2 0) (notices_from (get_or s 3 0) s)) None ≡ Some p → Slotted m s p
 packet_tested m s p true f l h e one k = packet_told m s p (notices_from (get_or s 3 0) s) refl l h e one f k
-packet_tested m s p false f l h e one k = absurd (let z : ◌≡◌ {A = ℕ} 0 1 = cc in omega arith)
+packet_tested m s p false f l h e one k = absurd (cc)
 
 none_tested : (m : ℕ) (s : List ℕ) (p : EventPacket) (b : Bool) → zeros s ≡ b → length s ≡ 32
     → cond b (Some none) None ≡ Some p → Slotted m s p
@@ -207,14 +208,14 @@ none_tested m s p true z e k =
     let j : none ≡ p = cc in
     let w : s ≡ slot_bytes none = zeros_written s z ∙ ap (λ (n : ℕ). replicate n 0) e in
     subst (λ (x : EventPacket). Slotted m s x) j (record { bytes = w; told = record { told = inl refl } })
-none_tested m s p false z e k = absurd (let z : ◌≡◌ {A = ℕ} 0 1 = cc in omega arith)
+none_tested m s p false z e k = absurd (cc)
 
 slot_at : (n m : ℕ) (s : List ℕ) (p : EventPacket) → get_or s 0 0 ≡ n → 0 < m → AllBytes s → length s ≡ 32
     → get_or (slot_cases m s) n None ≡ Some p → Slotted m s p
 slot_at zero m s p i l h e k = none_tested m s p (zeros s) refl e k
 slot_at (suc zero) m s p i l h e k =
     packet_tested m s p (head_fits m (get_or s 1 0) (get_or s 2 0) (get_or s 3 0)) refl l h e i k
-slot_at (suc (suc n)) m s p i l h e k = absurd (let z : ◌≡◌ {A = ℕ} 0 1 = cc in omega arith)
+slot_at (suc (suc n)) m s p i l h e k = absurd (cc)
 
 pub slot_read : (m : ℕ) (s : List ℕ) (p : EventPacket) → 0 < m → AllBytes s → length s ≡ 32 → slot_from m s ≡ Some p → Slotted m s p
 slot_read m s p l h e k = slot_at (get_or s 0 0) m s p refl l h e k
@@ -236,28 +237,28 @@ four_bytes_lem a b c d ha hb hc hd =
 list_bytes : (l : List Event) → length l ≤ 4 → notices_fit l ≡ true → Below (notices_bytes (rebuilt l))
 list_bytes [] k h = four_bytes_lem _ _ _ _ blank blank blank blank
 list_bytes (a ∷ []) k h =
-    let x = notice_bytes_lem a (and_left (notice_fits a) _ h) in
+    let x = notice_bytes_lem a (and_parts (notice_fits a) _ h).0 in
     four_bytes_lem _ _ _ _ x blank blank blank
 list_bytes (a ∷ b ∷ []) k h =
-    let h1 = and_right (notice_fits a) (notices_fit (b ∷ [])) h in
-    let x = notice_bytes_lem a (and_left (notice_fits a) _ h) in
-    let y = notice_bytes_lem b (and_left (notice_fits b) _ h1) in
+    let h1 = (and_parts (notice_fits a) (notices_fit (b ∷ [])) h).1 in
+    let x = notice_bytes_lem a (and_parts (notice_fits a) _ h).0 in
+    let y = notice_bytes_lem b (and_parts (notice_fits b) _ h1).0 in
     four_bytes_lem _ _ _ _ x y blank blank
 list_bytes (a ∷ b ∷ c ∷ []) k h =
-    let h1 = and_right (notice_fits a) (notices_fit (b ∷ c ∷ [])) h in
-    let h2 = and_right (notice_fits b) (notices_fit (c ∷ [])) h1 in
-    let x = notice_bytes_lem a (and_left (notice_fits a) _ h) in
-    let y = notice_bytes_lem b (and_left (notice_fits b) _ h1) in
-    let z = notice_bytes_lem c (and_left (notice_fits c) _ h2) in
+    let h1 = (and_parts (notice_fits a) (notices_fit (b ∷ c ∷ [])) h).1 in
+    let h2 = (and_parts (notice_fits b) (notices_fit (c ∷ [])) h1).1 in
+    let x = notice_bytes_lem a (and_parts (notice_fits a) _ h).0 in
+    let y = notice_bytes_lem b (and_parts (notice_fits b) _ h1).0 in
+    let z = notice_bytes_lem c (and_parts (notice_fits c) _ h2).0 in
     four_bytes_lem _ _ _ _ x y z blank
 list_bytes (a ∷ b ∷ c ∷ d ∷ []) k h =
-    let h1 = and_right (notice_fits a) (notices_fit (b ∷ c ∷ d ∷ [])) h in
-    let h2 = and_right (notice_fits b) (notices_fit (c ∷ d ∷ [])) h1 in
-    let h3 = and_right (notice_fits c) (notices_fit (d ∷ [])) h2 in
-    let x = notice_bytes_lem a (and_left (notice_fits a) _ h) in
-    let y = notice_bytes_lem b (and_left (notice_fits b) _ h1) in
-    let z = notice_bytes_lem c (and_left (notice_fits c) _ h2) in
-    let w = notice_bytes_lem d (and_left (notice_fits d) _ h3) in
+    let h1 = (and_parts (notice_fits a) (notices_fit (b ∷ c ∷ d ∷ [])) h).1 in
+    let h2 = (and_parts (notice_fits b) (notices_fit (c ∷ d ∷ [])) h1).1 in
+    let h3 = (and_parts (notice_fits c) (notices_fit (d ∷ [])) h2).1 in
+    let x = notice_bytes_lem a (and_parts (notice_fits a) _ h).0 in
+    let y = notice_bytes_lem b (and_parts (notice_fits b) _ h1).0 in
+    let z = notice_bytes_lem c (and_parts (notice_fits c) _ h2).0 in
+    let w = notice_bytes_lem d (and_parts (notice_fits d) _ h3).0 in
     four_bytes_lem _ _ _ _ x y z w
 list_bytes (a ∷ b ∷ c ∷ d ∷ e ∷ l) k h = absurd (omega arith)
 
@@ -265,7 +266,7 @@ packet_below : (p : EventPacket) → Parts p → Below (packet_bytes p)
 packet_below p k =
     let b : Below (notices_bytes p.notices) =
     subst (λ (n : Notices). Below (notices_bytes n)) (padded_rebuilt p.notices k.form) (list_bytes (listed p.notices) (at_most_four p.notices k.form) k.fits) in
-    let c = leb-true p.notices.count 4 (and_left (leb p.notices.count 4) _ k.form) in
+    let c = leb-true p.notices.count 4 (and_parts (leb p.notices.count 4) _ k.form).0 in
     places.one (omega arith)
     (places.one (omega (arith, leb-true p.answer 10 k.answer))
     (places.one (omega (arith, leb-true p.orders 35 k.orders)) (places.one (omega (arith, c)) b)))

@@ -35,7 +35,7 @@ use Rattle.desk_follower.specs.declared.Shown.{Shown}
 use Rattle.desk_follower.specs.declared.held.Held.{Held}
 use Rattle.desk_follower.proofs.Kept.{mod8, none_at, take_kept}
 use Rattle.bytes_follower_image.specs.Fits.{image_fits}
-use Rattle.bytes_follower_image.proofs.Notices.{and_left, and_right}
+use Rattle.std.proofs.lemmas.Bool.{and_parts}
 use Rattle.bytes_follower_image.proofs.Slots.{parts}
 use Rattle.bytes_follower_image.proofs.OneImage.{Fit, fit_tested, tested_fit, Fits, fits, fitted, picture_parts, picture_whole}
 
@@ -57,7 +57,7 @@ applied_one d (Event.Unconstrained u) s h = record { consumer = s.consumer; avai
 applied_list : (l : List Event) (d : Display) → Shows d → notices_fit l ≡ true → Shows (applied_all l d)
 applied_list [] d s h = s
 applied_list (e ∷ l) d s h =
-    applied_list l (applied_to d e) (applied_one d e s (and_left (notice_fits e) (notices_fit l) h)) (and_right (notice_fits e) (notices_fit l) h)
+    applied_list l (applied_to d e) (applied_one d e s (and_parts (notice_fits e) (notices_fit l) h).0) (and_parts (notice_fits e) (notices_fit l) h).1
 
 applied_fit : (p : EventPacket) (d : Display) → Fit p → Shows d → Shows (all_applied p.notices d)
 applied_fit p d f s = by f.fit

@@ -23,10 +23,9 @@ use Rattle.interface_display.specs.Notices.{filler}
 use Rattle.bytes_groups.specs.Tagged.{tagged_at, no_group}
 use Rattle.bytes_groups.specs.declared.tagged.Tagged.{Tagged}
 use Rattle.bytes_follower_image.specs.declared.notice.Tested.{Tested}
-use Rattle.desk_follower.specs.Held.{none}
 use Rattle.bytes_follower_image.specs.Notice.{rest_zero, reason_read, consumer_read, provider_read, notice_cases, notice_from, is_zero, place_from, is_notice, four_bytes, pair_fits, tested_at, kind_cases, bytes_fit, bytes_zero}
 use Rattle.bytes_follower_image.specs.Slot.{notices_of, are_notices, packet_of, is_read}
-use Rattle.bytes_follower_image.proofs.Notices.{and_left, and_right}
+use Rattle.std.proofs.lemmas.Bool.{and_parts}
 
 -- two tests agree where each holds if the other does
 both : (a b : Bool) → (a ≡ true → b ≡ true) → (b ≡ true → a ≡ true) → a ≡ b
@@ -65,7 +64,7 @@ module _ (g : Group) where
   all_tested =
       both (pair_fits g.v0 0 rest) (all_zero g)
       (λ e. eq-eqb (g.v0 + g.v1 + g.c0 + g.c1 + g.flags) 0
-      (omega (arith, leb-true g.v0 0 (and_left (leb g.v0 0) (eqb rest 0) e), eqb-true rest 0 (and_right (leb g.v0 0) (eqb rest 0) e))))
+      (omega (arith, leb-true g.v0 0 (and_parts (leb g.v0 0) (eqb rest 0) e).0, eqb-true rest 0 (and_parts (leb g.v0 0) (eqb rest 0) e).1)))
       (λ e. let z = eqb-true (g.v0 + g.v1 + g.c0 + g.c1 + g.flags) 0 e in
       rw (le-leb g.v0 0 (omega arith), eq-eqb rest 0 (omega arith)))
 
@@ -127,10 +126,10 @@ zeros_tested t =
     both (eqb s 0) (is_zero t)
     (λ e. let z = eqb-true s 0 e in
     rw (eq-eqb t.tag 0 (omega arith), eq-eqb g.number 0 (omega arith), eq-eqb five 0 (omega arith)))
-    (λ e. let r = and_right (eqb t.tag 0) (no_group g) e in
-    let k = eqb-true t.tag 0 (and_left (eqb t.tag 0) (no_group g) e) in
-    let n = eqb-true g.number 0 (and_left (eqb g.number 0) (all_zero g) r) in
-    let f = eqb-true five 0 (and_right (eqb g.number 0) (all_zero g) r) in
+    (λ e. let r = (and_parts (eqb t.tag 0) (no_group g) e).1 in
+    let k = eqb-true t.tag 0 (and_parts (eqb t.tag 0) (no_group g) e).0 in
+    let n = eqb-true g.number 0 (and_parts (eqb g.number 0) (all_zero g) r).0 in
+    let f = eqb-true five 0 (and_parts (eqb g.number 0) (all_zero g) r).1 in
     eq-eqb s 0 (omega arith))
 
 -- the seven bytes at a place of a slot
@@ -168,7 +167,3 @@ pub packet_tested : (h : Bool) (number answer orders : ℕ) (n : Option Notices)
 packet_tested false number answer orders n = refl
 packet_tested true number answer orders None = refl
 packet_tested true number answer orders (Some n) = refl
-
-pub none_tested : (b : Bool) → b ≡ is_read (cond b (Some none) None)
-none_tested true = refl
-none_tested false = refl

@@ -6,6 +6,7 @@ use Rattle.power_policy_interface.specs.declared.capability.ConsumerPowerCapabil
 use Rattle.power_policy_interface.specs.declared.capability.DisconnectFlags.{DisconnectFlags}
 use Rattle.power_policy_interface.specs.declared.capability.ProviderPowerCapability.{ProviderPowerCapability}
 use Rattle.power_policy_interface.specs.declared.service.event.Event.{Event}
+pub use Rattle.interface_records.specs.Group.{pair_group}
 use Rattle.interface_records.specs.Group.{empty_group, consumer_group, provider_group, all_zero, consumer_from, provider_from}
 use Rattle.interface_records.specs.declared.group.Group.{Group}
 use Rattle.interface_display.specs.Notices.{filler}
@@ -14,10 +15,6 @@ use Rattle.bytes_groups.specs.declared.tagged.Tagged.{Tagged}
 use Rattle.bytes_follower_image.specs.declared.notice.Tested.{Tested}
 
 -- writing
-
--- two bytes and four zeros
-abbrev pub pair_group : ℕ → ℕ → Group
-pair_group a b = record { number = a; v0 = b; v1 = 0; c0 = 0; c1 = 0; flags = 0 }
 
 abbrev pub notice_tagged : Event → Tagged
 notice_tagged (Event.ConsumerDisconnected port f) = record { tag = 1; group = pair_group port (disconnect_byte f) }

@@ -5,55 +5,31 @@ pub mod held;
 pub mod notice;
 pub mod slot;
 
-ghost use Rattle.std.specs.Prelude.{◌≡◌, ◌∷◌, length};
+ghost use Rattle.std.specs.Prelude.{◌≡◌, ◌∷◌};
 ghost use Rattle.std.proofs.lemmas.List.Edits.{sets};
-ghost use Rattle.power_policy_interface.specs.Limits.{follower_length};
 ghost use Rattle.bytes_groups.specs.Quad.{quad_bytes, number_quad};
-ghost use Rattle.bytes_follower_image.specs.Image.{lost_bytes, lost_in, port_fits, display_fits, showing_in, follower_from, shown_read, ShownBy, shown_head};
+ghost use Rattle.bytes_follower_image.specs.Image.{lost_bytes, lost_in, showing_in, follower_from, shown_read, ShownBy, shown_head};
 
-use bytes_groups::place;
 use bytes_groups::quad::Quad;
+use bytes_groups::{place, shown};
 use desk_follower::Shown;
 use interface_display::packet::Picture;
-use interface_display::providers::MAX_CONNECTED_PROVIDERS;
-use interface_display::{AvailableConsumer, Display};
 use power_policy_interface::limits::{FOLLOWER_IMAGE, MAX_PORTS};
 
-// Whether a consumer's port is one of 16.
-fn port_fits(c: Option<AvailableConsumer>) -> bool
-    ensures { result ≡ port_fits c }
-{
-    match c {
-        None => true,
-        Some(a) => a.psu <= 15,
-    }
-}
-
-// Whether a display is within what a picture has.
-fn display_fits(d: Display) -> bool
-    ensures { result ≡ display_fits d }
-{
-    port_fits(d.consumer)
-        && d.unconstrained.available <= MAX_PORTS
-        && d.providers.len() <= MAX_CONNECTED_PROVIDERS
-}
-
 // Lost: zeros stand after the floor.
-fn shown_lost(image: &[u8]) -> Option<Shown>
-    requires { length image.now ≡ follower_length }
+fn shown_lost(image: &[u8; FOLLOWER_IMAGE]) -> Option<Shown>
     ensures { result ≡ shown_read (lost_in image.now) }
 {
     slot::is_zero(&image[6..]).then_some(Shown::Lost(u32::from(Quad::at(image, 2))))
 }
 
 // Showing: the number and the display, where the slots are slots.
-fn shown_picture(image: &[u8]) -> Option<Shown>
-    requires { length image.now ≡ follower_length }
+fn shown_picture(image: &[u8; FOLLOWER_IMAGE]) -> Option<Shown>
     ensures { result ≡ shown_read (showing_in image.now) }
 {
     let number = u32::from(Quad::at(image, 2));
-    let display = bytes_groups::shown::Shown::at(image, 6).display()?;
-    let fits = display_fits(display) && held::fits(&image[17..], number);
+    let display = shown::Shown::at(image, 6).display()?;
+    let fits = shown::fits(MAX_PORTS, display) && held::fits(image, number);
     fits.then_some(Shown::Picture(Picture { number, display }))
 }
 
@@ -62,9 +38,11 @@ pub fn read_shown(image: &[u8]) -> Option<Shown>
     ensures value { result ≡ shown_read (follower_from image.now) }
     ensures shown_by { ShownBy image.now result }
 {
-    if image.len() != FOLLOWER_IMAGE || image[0] != 2 {
+    let image: &[u8; FOLLOWER_IMAGE] = image.as_array()?;
+    if image[0] != 2 {
         return None;
     }
+    // The layout's byte decides: an enum of the two kinds would be matched once more.
     match image[1] {
         0 => shown_lost(image),
         1 => shown_picture(image),
@@ -72,7 +50,8 @@ pub fn read_shown(image: &[u8]) -> Option<Shown>
     }
 }
 
-// Writes the first six bytes: a follower's image, lost or showing, the number.
+// Writes the first six bytes: a follower's image, lost or showing, the number. The kind is the layout's byte, 0 or 1: an enum would be made at each
+// call and turned into that byte here.
 pub fn put_head(image: &mut [u8], kind: u8, number: u32)
     ensures { image.new ≡ sets image.old 0 (2 ∷ kind ∷ quad_bytes (number_quad number)) }
 {
@@ -94,6 +73,6 @@ pub fn put_shown(image: &mut [u8], p: Picture)
     ensures { image.new ≡ sets image.old 0 (shown_head p.number p.display) }
 {
     put_head(image, 1, p.number);
-    let display = bytes_groups::shown::Shown::from(p.display).bytes();
+    let display = shown::Shown::from(p.display).bytes();
     place::put(image, 6, &display);
 }

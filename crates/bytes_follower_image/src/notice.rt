@@ -1,9 +1,8 @@
 // A notice as seven bytes: its kind, and a group of six.
 ghost use Rattle.std.specs.Prelude.{◌≡◌, ◌+◌, ◌≤◌, length};
 ghost use Rattle.bytes_groups.specs.Tagged.{tagged_at};
-ghost use Rattle.bytes_follower_image.specs.Notice.{pair_group, notice_tagged, place_tagged, rest_zero, consumer_disconnected, consumer_connected, provider_disconnected, provider_connected, unconstrained_changed, notice_from, is_zero, place_from, four_bytes, pair_fits, provider_flags_fit, figures_tested, tested_at, bytes_fit, bytes_zero, is_notice};
+ghost use Rattle.bytes_follower_image.specs.Notice.{notice_tagged, zero_tagged, place_tagged, rest_zero, consumer_disconnected, provider_disconnected, unconstrained_changed, notice_from, is_zero, place_from, four_bytes, pair_fits, provider_flags_fit, figures_tested, tested_at, bytes_fit, bytes_zero, is_notice};
 
-use bytes_groups::tagged;
 use bytes_groups::tagged::Tagged;
 use interface_records::group::Group;
 use power_policy_interface::capability::DisconnectFlags;
@@ -11,28 +10,14 @@ use power_policy_interface::limits::MAX_PORTS;
 use power_policy_interface::service::UnconstrainedState;
 use power_policy_interface::service::event::Event;
 
-// Two bytes and four zeros.
-fn pair(a: u8, b: u8) -> Group
-    ensures { result ≡ pair_group a b }
-{
-    Group {
-        number: a,
-        v0: b,
-        v1: 0,
-        c0: 0,
-        c1: 0,
-        flags: 0,
-    }
-}
-
-// The bytes of a notice.
+// The bytes of a notice. A function: Event and Tagged are of crates below, so it can have no From here (orphan-impl).
 fn tagged_of(e: Event) -> Tagged
     ensures { result ≡ notice_tagged e }
 {
     match e {
         Event::ConsumerDisconnected(port, flags) => Tagged {
             tag: 1,
-            group: pair(port, u8::from(flags)),
+            group: Group::pair(port, u8::from(flags)),
         },
         Event::ConsumerConnected(port, c) => Tagged {
             tag: 2,
@@ -48,20 +33,27 @@ fn tagged_of(e: Event) -> Tagged
         },
         Event::Unconstrained(figures) => Tagged {
             tag: 5,
-            group: pair(figures.unconstrained as u8, figures.available),
+            group: Group::pair(figures.unconstrained as u8, figures.available),
         },
     }
 }
 
-// The bytes of place k of a count: zeros past the count.
+// Seven zeros.
+fn zeros() -> Tagged
+    ensures { result ≡ zero_tagged }
+{
+    Tagged {
+        tag: 0,
+        group: Group::empty(0),
+    }
+}
+
+// The bytes of place k of a count: zeros past the count. Count and place, which their callers have: a flag in their place would be worked out at each of six calls.
 pub(crate) fn place(count: u8, k: u8, e: Event) -> Tagged
     ensures { result ≡ place_tagged count k e }
 {
     if count <= k {
-        return Tagged {
-            tag: 0,
-            group: Group::empty(0),
-        };
+        return zeros();
     }
     tagged_of(e)
 }
@@ -70,7 +62,7 @@ pub(crate) fn place(count: u8, k: u8, e: Event) -> Tagged
 fn rest_is_zero(g: Group) -> bool
     ensures { result ≡ rest_zero g }
 {
-    (g.v1 as u16) + (g.c0 as u16) + (g.c1 as u16) + (g.flags as u16) == 0
+    [g.v1, g.c0, g.c1, g.flags] == [0; 4]
 }
 
 // Notice 1: port, reason, zeros.
@@ -84,25 +76,11 @@ fn consumer_disconnected(g: Group) -> Option<Event>
     Some(Event::ConsumerDisconnected(g.number, flags))
 }
 
-// Notice 2: a contract.
-fn consumer_connected(g: Group) -> Option<Event>
-    ensures { result ≡ consumer_connected g }
-{
-    Some(Event::ConsumerConnected(g.number, g.flagged()?))
-}
-
 // Notice 3: port, zeros.
 fn provider_disconnected(g: Group) -> Option<Event>
     ensures { result ≡ provider_disconnected g }
 {
     g.is_zero().then_some(Event::ProviderDisconnected(g.number))
-}
-
-// Notice 4: a contract.
-fn provider_connected(g: Group) -> Option<Event>
-    ensures { result ≡ provider_connected g }
-{
-    Some(Event::ProviderConnected(g.number, g.flagged()?))
 }
 
 // Notice 5: both figures, zeros.
@@ -116,7 +94,7 @@ fn unconstrained_changed(g: Group) -> Option<Event>
     }))
 }
 
-// The notice of seven bytes.
+// The notice of seven bytes. The layout's byte decides: an enum of the kinds would be matched once more.
 fn read(n: Tagged) -> Option<Event>
     ensures { result ≡ notice_from n }
 {
@@ -125,9 +103,9 @@ fn read(n: Tagged) -> Option<Event>
     }
     match n.tag {
         1 => consumer_disconnected(n.group),
-        2 => consumer_connected(n.group),
+        2 => Some(Event::ConsumerConnected(n.group.number, n.group.flagged()?)),
         3 => provider_disconnected(n.group),
-        4 => provider_connected(n.group),
+        4 => Some(Event::ProviderConnected(n.group.number, n.group.flagged()?)),
         5 => unconstrained_changed(n.group),
         _ => None,
     }
@@ -137,7 +115,7 @@ fn read(n: Tagged) -> Option<Event>
 fn is_zero(n: Tagged) -> bool
     ensures { result ≡ is_zero n }
 {
-    n.tag == 0 && tagged::is_empty(n.group)
+    n == zeros()
 }
 
 // The notice at place k of a count; zeros past the count.
@@ -150,18 +128,18 @@ fn read_place(count: u8, k: u8, n: Tagged) -> Option<Event>
     is_zero(n).then_some(Event::ConsumerDisconnected(0, DisconnectFlags::default()))
 }
 
-// The same from a place of a slot on. The bytes are read here: handed over as a value they would go through memory one by one.
+// The same from a place of a slot on. With the bytes read at each of the four calls in `read_notices` the check no longer finds that function's proof.
 pub(crate) fn place_at(s: &[u8], at: usize, count: u8, k: u8) -> Option<Event>
     ensures { result ≡ place_from count k (tagged_at s.now at) }
 {
     read_place(count, k, Tagged::at(s, at))
 }
 
-// Four bytes as one number: 0 where all are, and one load for the machine.
+// Four bytes as one number: 0 where all are.
 fn four(a: u8, b: u8, c: u8, d: u8) -> u32
     ensures { result ≡ four_bytes a b c d }
 {
-    (a as u32) + (b as u32) * 256 + (c as u32) * 65536 + (d as u32) * 16777216
+    u32::from_le_bytes([a, b, c, d])
 }
 
 // Whether a byte is at most so much and zeros follow it.
@@ -196,7 +174,7 @@ pub struct Tested {
 }
 
 impl Tested {
-    // The seven bytes from a place of a slot on.
+    // The seven bytes from a place of a slot on. A place and no part: what tests a slot has the place's number, with which its parts would be zipped.
     fn at(s: &[u8], at: usize) -> Tested
         requires { at + 7 ≤ length s.now }
         ensures { result ≡ tested_at s.now at }
@@ -210,7 +188,7 @@ impl Tested {
         }
     }
 
-    // Whether they are a notice.
+    // Whether they are a notice. The layout's byte decides, as in `read`.
     fn fits(self) -> bool
         ensures { result ≡ bytes_fit self }
     {
@@ -231,11 +209,12 @@ impl Tested {
     fn all_zero(self) -> bool
         ensures { result ≡ bytes_zero self }
     {
-        (self.kind as u64) + (self.port as u64) + (self.v as u64) + (self.rest as u64) == 0
+        self.kind == 0 && self.port == 0 && self.v == 0 && self.rest == 0
     }
 }
 
-// Whether the seven bytes from a place of a slot on are those of place k of a count. Nothing is made of them.
+// Whether the seven bytes from a place of a slot on are those of place k of a count. They are tested where they stand, as `slot::fits` says; a place and
+// no part, as `Tested::at`.
 pub(crate) fn place_fits(s: &[u8], at: usize, count: u8, k: u8) -> bool
     requires { at + 7 ≤ length s.now }
     ensures { result ≡ is_notice (place_from count k (tagged_at s.now at)) }

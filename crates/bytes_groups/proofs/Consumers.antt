@@ -14,7 +14,7 @@ use Rattle.power_policy_interface.specs.declared.capability.ConsumerPowerCapabil
 use Rattle.power_policy_interface.specs.declared.capability.ProviderPowerCapability.{ProviderPowerCapability}
 use Rattle.power_policy_interface.specs.declared.capability.PowerCapability.{PowerCapability}
 use Rattle.power_policy_interface.proofs.Bits.{number_lt}
-use Rattle.power_policy_interface.proofs.Conjunction.{and_left, and_right}
+use Rattle.std.proofs.lemmas.Bool.{and_parts}
 use Rattle.interface_records.specs.Group.{group_bytes, empty_group, capability_group, consumer_group, provider_group, consumer_from, provider_from, all_zero}
 use Rattle.interface_records.specs.Row.{AllBytes}
 use Rattle.interface_records.specs.declared.group.Group.{Group}
@@ -108,8 +108,8 @@ provider_within g c h e =
 
 pub no_group_lem : (g : Group) → no_group g ≡ true → g ≡ empty_group 0
 no_group_lem g e =
-    zeros g (and_right (eqb g.number 0) (all_zero g) e)
-    ∙ ap empty_group (eqb-true g.number 0 (and_left (eqb g.number 0) (all_zero g) e))
+    zeros g (and_parts (eqb g.number 0) (all_zero g) e).1
+    ∙ ap empty_group (eqb-true g.number 0 (and_parts (eqb g.number 0) (all_zero g) e).0)
 
 -- the optional consumer
 

@@ -4,11 +4,10 @@ use Rattle.std.specs.Prelude.{None, Option, Some}
 use mathlib.Core.Path.{◌≡◌, refl, subst}
 use mathlib.Core.Bool.{Bool, true, false, cond}
 use mathlib.Core.List.{List}
-use Prim.Native.Nat.{ℕ, zero, suc, ◌+◌, ◌*◌, ◌/◌, ◌%◌, ◌≤◌, ◌<◌}
+use Prim.Native.Nat.{ℕ, ◌+◌, ◌*◌, ◌/◌, ◌%◌, ◌<◌}
 use native.Mathlib.Omega.{arith}
 use lib.Dec.{eqb, leb}
 use borrow.Author.Tests.{leb-true}
-use Rattle.power_policy_interface.specs.Capability.{bit}
 use Rattle.interface_records.specs.Row.{AllBytes}
 use Rattle.interface_display.specs.declared.Display.{Display}
 use Rattle.interface_display.specs.declared.AvailableConsumer.{AvailableConsumer}
@@ -17,6 +16,7 @@ use Rattle.bytes_groups.specs.Shown.{shown_at, shown_bytes, display_shown, displ
 use Rattle.bytes_groups.specs.declared.shown.Shown.{Shown}
 use Rattle.bytes_groups.proofs.Places.{Below, none, one, both}
 use Rattle.bytes_groups.proofs.Consumers.{TaggedBytes, ConsumerWithin, Optional, tagged_at_lem, tagged_bytes_lem, optional_back, optional_bytes, optional_read}
+use Rattle.power_policy_interface.proofs.Bits.{bit_le, bit_tested, bit_back, bit_written}
 
 pub record ShownBytes (g : Shown) : Type 0 where
   pub consumer : TaggedBytes g.consumer
@@ -43,25 +43,6 @@ shown_at_lem s at h = record {
 pub shown_bytes_lem : (g : Shown) → ShownBytes g → Below (shown_bytes g)
 shown_bytes_lem g h =
     both (tagged_bytes_lem g.consumer h.consumer) (one h.unconstrained (one h.available (one h.low (one h.high none))))
-
--- a truth value as a byte
-
-pub bit_le : (u : Bool) → bit u ≤ 1
-bit_le true = omega arith
-bit_le false = omega arith
-
-bit_tested : (u : Bool) → leb (bit u) 1 ≡ true
-bit_tested true = refl
-bit_tested false = refl
-
-bit_back : (u : Bool) → eqb (bit u) 1 ≡ u
-bit_back true = refl
-bit_back false = refl
-
-bit_written : (n : ℕ) → n ≤ 1 → n ≡ bit (eqb n 1)
-bit_written zero h = refl
-bit_written (suc zero) h = refl
-bit_written (suc (suc n)) h = absurd (omega arith)
 
 -- reading what was written
 

@@ -2,3 +2,4 @@ pub mod Places
 pub mod Quads
 pub mod Consumers
 pub mod Displays
+pub mod Masks

@@ -4,15 +4,16 @@ use mathlib.Core.Path.{◌≡◌, refl, ap, sym, ◌∙◌}
 use mathlib.Core.Bool.{Bool, true, false}
 use mathlib.Core.List.{List, [], ◌∷◌, ◌++◌, append_assoc, append-nil}
 use Prim.Native.Nat.{ℕ, zero, suc, ◌+◌, ◌-◌, ◌≤◌, ◌<◌, min}
-use native.Mathlib.Nat.{suc_inj, add-zero}
+use native.Mathlib.Nat.{add-zero}
 use native.Mathlib.Omega.{arith}
 use lib.Dec.{leb}
-use lib.ListN.{length, get_or, set, take, drop, drop_of_length-le, take-append-drop}
+use lib.ListN.{length, set, take, drop, drop_of_length-le, take-append-drop}
 use lib.Seq.{sets, sets-eq, set_out, drop-length, length-take-le, length-sets, drop-drop}
 use borrow.Author.Tests.{leb-true, leb-false}
 use Rattle.interface_records.specs.Row.{AllBytes}
+use Rattle.interface_records.proofs.OneRow.{no_bytes}
 
--- parts stored one after the other
+-- parts stored one after the other (wire has it too: neither crate lies below the other, and none below both stores bytes)
 
 pub sets_append : (vs ws l : List ℕ) (i : ℕ) → sets (sets l i vs) (i + length vs) ws ≡ sets l i (vs ++ ws)
 sets_append [] ws l i = rw add-zero
@@ -71,12 +72,8 @@ sets_range s l at n e h =
 pub record Below (s : List ℕ) : Type 0 where
   pub bytes : AllBytes s
 
-none_bytes : AllBytes []
-none_bytes zero = omega arith
-none_bytes (suc k) = omega arith
-
 pub none : Below []
-none = record { bytes = none_bytes }
+none = record { bytes = no_bytes }
 
 one_bytes : (x : ℕ) (s : List ℕ) → x < 256 → AllBytes s → AllBytes (x ∷ s)
 one_bytes x s h t zero = h

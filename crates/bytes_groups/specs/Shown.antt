@@ -1,7 +1,9 @@
 -- The display as 11 bytes: optional consumer, unconstrained, available, and the tracked ports with bit p for port p, low byte first.
-use Rattle.std.specs.Prelude.{ℕ, ◌+◌, ◌*◌, ◌/◌, ◌%◌, cond, List, [], ◌∷◌, ◌++◌, eqb, leb, get_or, None, Option, Some}
+use Rattle.std.specs.Prelude.{ℕ, ◌+◌, ◌*◌, ◌/◌, ◌%◌, ◌^◌, Bool, true, cond, ◌&&◌, List, [], ◌∷◌, ◌++◌, eqb, leb, ltb, get_or, None, Option, Some}
 use Rattle.power_policy_interface.specs.Capability.{bit}
 use Rattle.interface_display.specs.declared.Display.{Display}
+use Rattle.interface_display.specs.declared.providers.Providers.{Providers}
+use Rattle.interface_display.specs.Providers.{len, max_connected_providers}
 use Rattle.bytes_groups.specs.Tagged.{tagged_at, tagged_bytes, consumer_tagged, optional_from}
 use Rattle.interface_display.specs.declared.AvailableConsumer.{AvailableConsumer}
 use Rattle.bytes_groups.specs.declared.shown.Shown.{Shown}
@@ -51,3 +53,15 @@ display_with (Some c) g =
 -- an unconstrained byte above 1 is refused
 abbrev pub display_from : Shown → Option Display
 display_from g = display_with (optional_from g.consumer) g
+
+-- fitting: every port is one of so many, and at most four are tracked
+
+abbrev pub consumer_fits : ℕ → Option AvailableConsumer → Bool
+consumer_fits ports None = true
+consumer_fits ports (Some c) = ltb c.psu ports
+
+abbrev pub providers_fit : ℕ → Providers → Bool
+providers_fit ports t = ltb t.mask (2 ^ ports) && leb (len t) max_connected_providers
+
+abbrev pub display_fits : ℕ → Display → Bool
+display_fits ports d = consumer_fits ports d.consumer && (leb d.unconstrained.available ports && providers_fit ports d.providers)

@@ -39,6 +39,14 @@ consumer_bytes c = tagged_bytes (consumer_tagged c)
 
 -- reading
 
+abbrev pub available_with : ℕ → Option ConsumerPowerCapability → Option AvailableConsumer
+available_with port None = None
+available_with port (Some c) = Some (record { psu = port; consumer_power_capability = c })
+
+-- the consumer of a contract; none where the flag byte is refused
+abbrev pub available_from : Group → Option AvailableConsumer
+available_from g = available_with g.number (consumer_from g)
+
 abbrev pub contract_of : ℕ → Option ConsumerPowerCapability → Option (Option AvailableConsumer)
 contract_of port None = None
 contract_of port (Some c) =

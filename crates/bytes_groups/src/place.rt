@@ -11,7 +11,8 @@ fn room(length: usize, at: usize, count: usize) -> usize
     length.saturating_sub(at).min(count)
 }
 
-// Stores bytes from a place on. A place and no part of the slice, which may be short: what lies past its end is not stored.
+// Stores bytes from a place on; what lies past the end is not stored. A place and no array: it cannot fail, and with an array each caller would
+// cut and convert, and answer for a slice that is short.
 pub fn put(out: &mut [u8], at: usize, s: &[u8])
     ensures { out.new ≡ sets out.old at s.now }
 {

@@ -6,7 +6,7 @@ use crate::place::byte;
 use interface_records::group::{power_bytes, power_of};
 use power_policy_interface::capability::PowerCapability;
 
-// Four bytes by value.
+// Four bytes by value. A struct and no array: what is proved of its four bytes would ask in each law that an array of them has four.
 #[derive(Clone, Copy)]
 pub struct Quad {
     pub b0: u8,
@@ -16,7 +16,7 @@ pub struct Quad {
 }
 
 impl Quad {
-    // The four bytes from a place on. A place and no part of the slice, which may be short: zeros stand past its end.
+    // The four bytes from a place on, zeros past the end. A place and no array: it cannot fail (`place::byte`).
     pub fn at(s: &[u8], at: usize) -> Quad
         ensures { result ≡ quad_at s.now at }
     {

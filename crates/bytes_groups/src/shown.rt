@@ -1,12 +1,12 @@
 // The display as eleven bytes.
 ghost use Rattle.std.specs.Prelude.{◌≡◌};
-ghost use Rattle.power_policy_interface.specs.Capability.{bit};
-ghost use Rattle.bytes_groups.specs.Shown.{shown_at, shown_bytes, display_shown, display_from};
+ghost use Rattle.bytes_groups.specs.Shown.{shown_at, shown_bytes, display_shown, display_from, providers_fit, display_fits};
 
 use crate::place::byte;
 use crate::tagged::Tagged;
 use interface_display::Display;
-use interface_display::providers::Providers;
+use interface_display::providers::{MAX_CONNECTED_PROVIDERS, Providers};
+use power_policy_interface::limits::MAX_PORTS;
 use power_policy_interface::service::UnconstrainedState;
 
 // Eleven bytes by value.
@@ -19,15 +19,24 @@ pub struct Shown {
     pub high: u8,
 }
 
-// 0 or 1.
-pub fn bit(u: bool) -> u8
-    ensures { result ≡ bit u }
+// No port is tracked past so many, and at most four are.
+fn providers_fit(ports: u8, t: Providers) -> bool
+    ensures { result ≡ providers_fit ports t }
 {
-    u as u8
+    (MAX_PORTS <= ports || t.mask >> ports == 0) && t.len() <= MAX_CONNECTED_PROVIDERS
+}
+
+// Whether a display is one of so many ports: that of the consumer, how many are available, and those tracked.
+pub fn fits(ports: u8, d: Display) -> bool
+    ensures { result ≡ display_fits ports d }
+{
+    d.consumer.is_none_or(|a| a.psu < ports)
+        && d.unconstrained.available <= ports
+        && providers_fit(ports, d.providers)
 }
 
 impl Shown {
-    // The eleven bytes from a place on. A place and no part of the slice, which may be short: zeros stand past its end.
+    // The eleven bytes from a place on, zeros past the end. A place and no array: it cannot fail (`place::byte`).
     pub fn at(s: &[u8], at: usize) -> Shown
         ensures { result ≡ shown_at s.now at }
     {
@@ -44,21 +53,10 @@ impl Shown {
     pub fn bytes(self) -> [u8; 11]
         ensures { result ≡ shown_bytes self }
     {
-        let t = self.consumer;
-        let g = t.group;
-        [
-            t.tag,
-            g.number,
-            g.v0,
-            g.v1,
-            g.c0,
-            g.c1,
-            g.flags,
-            self.unconstrained,
-            self.available,
-            self.low,
-            self.high,
-        ]
+        let mut bytes = [0; 11];
+        bytes[..7].copy_from_slice(&self.consumer.bytes());
+        bytes[7..].copy_from_slice(&[self.unconstrained, self.available, self.low, self.high]);
+        bytes
     }
 
     // The display; refused for bytes that none is written as.
@@ -91,7 +89,7 @@ impl From<Display> for Shown {
         let [low, high] = d.providers.mask.to_le_bytes();
         Shown {
             consumer: Tagged::from(d.consumer),
-            unconstrained: bit(d.unconstrained.unconstrained),
+            unconstrained: u8::from(d.unconstrained.unconstrained),
             available: d.unconstrained.available,
             low,
             high,

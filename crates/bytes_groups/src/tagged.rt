@@ -1,13 +1,13 @@
 // A byte and a group of six, and the optional consumer as such.
 ghost use Rattle.std.specs.Prelude.{◌≡◌};
-ghost use Rattle.bytes_groups.specs.Tagged.{tagged_at, tagged_bytes, no_group, consumer_tagged, optional_from};
+ghost use Rattle.bytes_groups.specs.Tagged.{tagged_at, tagged_bytes, no_group, consumer_tagged, available_from, optional_from};
 
 use crate::place::byte;
 use interface_display::AvailableConsumer;
-use interface_records::group::Group;
+use interface_records::group::{Group, optional};
 
 // Seven bytes by value: a kind or a presence, and a contract.
-#[derive(Clone, Copy)]
+#[derive(Clone, Copy, PartialEq, Eq)]
 pub struct Tagged {
     pub tag: u8,
     pub group: Group,
@@ -17,47 +17,44 @@ pub struct Tagged {
 pub fn is_empty(g: Group) -> bool
     ensures { result ≡ no_group g }
 {
-    g.number == 0 && g.is_zero()
+    g == Group::empty(0)
+}
+
+// The consumer of a contract, none where the flag byte is refused.
+pub fn available_from(g: Group) -> Option<AvailableConsumer>
+    ensures { result ≡ available_from g }
+{
+    Some(AvailableConsumer {
+        psu: g.number,
+        consumer_power_capability: g.flagged()?,
+    })
 }
 
 impl Tagged {
-    // The seven bytes from a place on. A place and no part of the slice, which may be short: zeros stand past its end.
+    // The seven bytes from a place on, zeros past the end. A place and no array: it cannot fail (`place::byte`).
     pub fn at(s: &[u8], at: usize) -> Tagged
         ensures { result ≡ tagged_at s.now at }
     {
-        let tag = byte(s, at, 0);
-        let group = Group {
-            number: byte(s, at, 1),
-            v0: byte(s, at, 2),
-            v1: byte(s, at, 3),
-            c0: byte(s, at, 4),
-            c1: byte(s, at, 5),
-            flags: byte(s, at, 6),
-        };
-        Tagged { tag, group }
+        Tagged {
+            tag: byte(s, at, 0),
+            group: Group::at(s, at.saturating_add(1)),
+        }
     }
 
     // A method, as the library's to_le_bytes: with a From each call would name the array's length.
     pub fn bytes(self) -> [u8; 7]
         ensures { result ≡ tagged_bytes self }
     {
-        let g = self.group;
-        [self.tag, g.number, g.v0, g.v1, g.c0, g.c1, g.flags]
+        let mut bytes = [self.tag; 7];
+        bytes[1..].copy_from_slice(&self.group.bytes());
+        bytes
     }
 
     // The optional consumer; refused for bytes that none is written as.
     pub fn consumer(self) -> Option<Option<AvailableConsumer>>
         ensures { result ≡ optional_from self }
     {
-        let group = self.group;
-        match self.tag {
-            0 if is_empty(group) => Some(None),
-            1 => Some(Some(AvailableConsumer {
-                psu: group.number,
-                consumer_power_capability: group.flagged()?,
-            })),
-            _ => None,
-        }
+        optional(self.tag, is_empty(self.group), available_from(self.group))
     }
 }
 

@@ -1,5 +1,6 @@
 // The calls on the service's image: each reads the image, calls the service by value, and writes the image back. A call that is turned back leaves every byte
-// as it was.
+// as it was. Image, PSU and charger records go side by side, as the C interface lends them: a struct of the three would be taken apart again at the first line
+// of `try_call`, the one function that reads them.
 #![tactic(auto)]
 
 ghost use Rattle.std.specs.Prelude.{◌≡◌, ok_or};
@@ -9,12 +10,14 @@ ghost use Rattle.machine_service.specs.Service.{accepted};
 ghost use Rattle.abstract_calls.specs.Lent.{rows_in, written_as};
 ghost use Rattle.machine_state.specs.Phase.{order_of};
 ghost use Rattle.bytes_service_image.specs.Image.{service_from};
-ghost use Rattle.bytes_calls.specs.Calls.{number_of, start_call, stepped_call, open_call, answer_call, stand_number, order_call, write_packet_call, write_picture_call};
+ghost use Rattle.bytes_service_calls.specs.Step.{IsStep, IsWrite, asked_call};
+ghost use Rattle.bytes_calls.specs.Calls.{number_of, start_call, stepped_call, on_service, open_call, answer_call, stand_number, order_call, write_packet_call, write_picture_call};
 
 use abstract_policy::state::{Records, Registration};
 use bytes_calls::numbers;
 use bytes_calls::rows::read_rows;
-use machine_service::{Service, Stepped, answer_in, send};
+use machine_service::{Service, Stepped, send};
+use machine_state::phase::Stand;
 use power_policy_interface::limits::SERVICE_IMAGE;
 use power_policy_interface::refusal::Refusal;
 use power_policy_service::config::Config;
@@ -39,28 +42,27 @@ fn store(image: &mut [u8], stepped: Stepped) -> u64
     ensures image_after { image.new ≡ (stepped_call image.old (accepted stepped)).bytes }
 {
     bytes_service_image::write(image, stepped.service);
-    numbers::step(stepped.step)
+    numbers::step(Ok(stepped.step))
 }
 
-// An event, or what turns it back.
-fn try_open(
+// A call with records, or what turns it back: image and records are read, and then the step is taken that the caller hands in.
+fn try_call<F: FnOnce(Service, Records) -> Result<Stepped, Refusal>>(
     image: &mut [u8],
     psus: &[u8],
     chargers: &[u8],
-    kind: u32,
-    device: u32,
-    detail: u32,
+    step: F,
 ) -> Result<u64, Refusal>
-    ensures value { number_of result ≡ (open_call image.old psus.now chargers.now kind device detail).number }
-    ensures image_after { image.new ≡ (open_call image.old psus.now chargers.now kind device detail).bytes }
+    requires { F.IsAlwaysCallable step }
+    ensures value { (f : _) → IsStep (F.post step) f → number_of result ≡ (on_service image.old (service_from image.old) psus.now chargers.now f).number }
+    ensures image_after { (f : _) → IsStep (F.post step) f → image.new ≡ (on_service image.old (service_from image.old) psus.now chargers.now f).bytes }
 {
     let service = service_in(image)?;
     let records = records_in(service.registration, psus, chargers)?;
-    let stepped = service.open(kind, device, detail, records)?;
+    let stepped = step(service, records)?;
     Ok(store(image, stepped))
 }
 
-// An event of a kind from a port or a charger, with the present records.
+// An event of a kind from a port or a charger, with the present records: kind, device and detail by the numbers that C gives.
 pub fn open_event(
     image: &mut [u8],
     psus: &[u8],
@@ -72,26 +74,17 @@ pub fn open_event(
     ensures value { result ≡ (open_call image.old psus.now chargers.now kind device detail).number }
     ensures image_after { image.new ≡ (open_call image.old psus.now chargers.now kind device detail).bytes }
 {
-    numbers::number_of(try_open(image, psus, chargers, kind, device, detail))
+    let open = |service: Service, records| service.open(kind, device, detail, records);
+    numbers::number_of(try_call(image, psus, chargers, open))
 }
 
-// An answer, or what turns it back.
-fn try_answer(image: &mut [u8], psus: &[u8], chargers: &[u8], answer: u32) -> Result<u64, Refusal>
-    ensures value { number_of result ≡ (answer_call image.old psus.now chargers.now answer).number }
-    ensures image_after { image.new ≡ (answer_call image.old psus.now chargers.now answer).bytes }
-{
-    let service = service_in(image)?;
-    let records = records_in(service.registration, psus, chargers)?;
-    let stepped = service.answer(answer, records)?;
-    Ok(store(image, stepped))
-}
-
-// The answer to the open order, with the present records.
+// The answer to the open order, by the number that C gives, with the present records.
 pub fn give_answer(image: &mut [u8], psus: &[u8], chargers: &[u8], answer: u32) -> u64
     ensures value { result ≡ (answer_call image.old psus.now chargers.now answer).number }
     ensures image_after { image.new ≡ (answer_call image.old psus.now chargers.now answer).bytes }
 {
-    numbers::number_of(try_answer(image, psus, chargers, answer))
+    let take_answer = |service: Service, records| service.answer(answer, records);
+    numbers::number_of(try_call(image, psus, chargers, take_answer))
 }
 
 // Writes the image of a fresh service, unless the start is refused or the bytes are of another length.
@@ -124,9 +117,9 @@ pub fn start(image: &mut [u8], config: Option<Config>, ports: u32, chargers: u32
 fn stand_of(service: Service) -> u64
     ensures { result ≡ stand_number (order_of service.phase) service.phase service.orders }
 {
-    match service.phase.order() {
-        None => numbers::closed(answer_in(service.phase), service.orders),
-        Some(o) => numbers::order(o),
+    match service.phase.stand() {
+        Stand::Closed(answer) => numbers::closed(answer, service.orders),
+        Stand::Order(o) => numbers::order(o),
     }
 }
 
@@ -137,13 +130,17 @@ pub fn read_order(image: &[u8]) -> u64
     numbers::number_of(service_in(image).map(stand_of))
 }
 
-// Writes the packet of the event closed last.
-fn try_write_packet(image: &[u8], buffer: &mut [u8]) -> Result<usize, Refusal>
-    ensures value { written_as (numbered result) ≡ (write_packet_call (service_from image.now) buffer.old).number }
-    ensures buffer_after { buffer.new ≡ (write_packet_call (service_from image.now) buffer.old).bytes }
+// Writes what was asked of the service, or says what turned it back. The two public functions that call it have a C function each, which forwards.
+fn try_write<T, F: FnOnce(T, &mut [u8]) -> Result<usize, Refusal>>(
+    asked: Result<T, Refusal>,
+    buffer: &mut [u8],
+    write: F,
+) -> Result<usize, Refusal>
+    requires { F.IsAlwaysCallable write }
+    ensures value { (f : _) → IsWrite (F.post write) f → written_as (numbered result) ≡ (asked_call f asked buffer.old).number }
+    ensures buffer_after { (f : _) → IsWrite (F.post write) f → buffer.new ≡ (asked_call f asked buffer.old).bytes }
 {
-    let packet = send::packet(service_in(image)?)?;
-    wire_writer::write_event(packet, buffer)
+    write(asked?, buffer)
 }
 
 // The packet of the event closed last, from the front of the buffer on.
@@ -151,16 +148,8 @@ pub fn write_packet(image: &[u8], buffer: &mut [u8]) -> u64
     ensures value { result ≡ (write_packet_call (service_from image.now) buffer.old).number }
     ensures buffer_after { buffer.new ≡ (write_packet_call (service_from image.now) buffer.old).bytes }
 {
-    numbers::stored(try_write_packet(image, buffer))
-}
-
-// Writes the full picture of what is held.
-fn try_write_picture(image: &[u8], buffer: &mut [u8]) -> Result<usize, Refusal>
-    ensures value { written_as (numbered result) ≡ (write_picture_call (service_from image.now) buffer.old).number }
-    ensures buffer_after { buffer.new ≡ (write_picture_call (service_from image.now) buffer.old).bytes }
-{
-    let picture = send::picture(service_in(image)?)?;
-    wire_writer::write_picture(picture, buffer)
+    let packet = service_in(image).and_then(send::packet);
+    numbers::stored(try_write(packet, buffer, wire_writer::write_event))
 }
 
 // The full picture of what is held, from the front of the buffer on.
@@ -168,5 +157,6 @@ pub fn write_picture(image: &[u8], buffer: &mut [u8]) -> u64
     ensures value { result ≡ (write_picture_call (service_from image.now) buffer.old).number }
     ensures buffer_after { buffer.new ≡ (write_picture_call (service_from image.now) buffer.old).bytes }
 {
-    numbers::stored(try_write_picture(image, buffer))
+    let picture = service_in(image).and_then(send::picture);
+    numbers::stored(try_write(picture, buffer, wire_writer::write_picture))
 }

@@ -23,10 +23,10 @@ triple_bytes g = g.tag ∷ g.a ∷ g.b ∷ []
 
 -- writing
 
-abbrev pub provider_tagged : ProviderNotice → Tagged
-provider_tagged ProviderNotice.None = record { tag = 0; group = empty_group 0 }
-provider_tagged (ProviderNotice.Disconnected p) = record { tag = 1; group = empty_group p }
-provider_tagged (ProviderNotice.Connected p c) = record { tag = 2; group = provider_group p c }
+abbrev pub provider_tagged : Option ProviderNotice → Tagged
+provider_tagged None = record { tag = 0; group = empty_group 0 }
+provider_tagged (Some (ProviderNotice.Disconnected p)) = record { tag = 1; group = empty_group p }
+provider_tagged (Some (ProviderNotice.Connected p c)) = record { tag = 2; group = provider_group p c }
 
 abbrev pub disconnected_triple : Option Disconnected → Triple
 disconnected_triple None = record { tag = 0; a = 0; b = 0 }
@@ -38,19 +38,19 @@ unconstrained_triple (Some u) = record { tag = 1; a = bit u.unconstrained; b = u
 
 -- reading
 
-abbrev pub connected_with : ℕ → Option ProviderPowerCapability → Option ProviderNotice
+abbrev pub connected_with : ℕ → Option ProviderPowerCapability → Option (Option ProviderNotice)
 connected_with p None = None
-connected_with p (Some c) = Some (ProviderNotice.Connected p c)
+connected_with p (Some c) = Some (Some (ProviderNotice.Connected p c))
 
-abbrev pub provider_cases : Group → List (Option ProviderNotice)
+abbrev pub provider_cases : Group → List (Option (Option ProviderNotice))
 provider_cases g =
-    cond (no_group g) (Some ProviderNotice.None) None
-    ∷ cond (all_zero g) (Some (ProviderNotice.Disconnected g.number)) None
+    cond (no_group g) (Some None) None
+    ∷ cond (all_zero g) (Some (Some (ProviderNotice.Disconnected g.number))) None
     ∷ connected_with g.number (provider_from g)
     ∷ []
 
 -- a kind above 2 is refused
-abbrev pub provider_read : Tagged → Option ProviderNotice
+abbrev pub provider_read : Tagged → Option (Option ProviderNotice)
 provider_read t = get_or (provider_cases t.group) t.tag None
 
 abbrev pub disconnected_with : ℕ → Option DisconnectFlags → Option (Option Disconnected)
@@ -80,7 +80,7 @@ abbrev pub unconstrained_read : Triple → Option (Option UnconstrainedState)
 unconstrained_read g = get_or (unconstrained_cases g.a g.b) g.tag None
 
 -- the first that is refused refuses all
-abbrev pub notices_with : Option ProviderNotice → Option (Option Disconnected) → Option (Option AvailableConsumer) → Option (Option UnconstrainedState) → Option Notices
+abbrev pub notices_with : Option (Option ProviderNotice) → Option (Option Disconnected) → Option (Option AvailableConsumer) → Option (Option UnconstrainedState) → Option Notices
 notices_with None d c u = None
 notices_with (Some p) None c u = None
 notices_with (Some p) (Some d) None u = None

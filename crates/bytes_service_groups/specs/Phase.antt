@@ -1,17 +1,16 @@
 -- Where an event stands, as ten bytes: a kind, three bytes that depend on it, and a contract (the table of docs/STATE.md).
 use Rattle.std.specs.Prelude.{ℕ, suc, ◌+◌, ◌-◌, cond, List, [], ◌∷◌, eqb, ltb, get_or, Err, None, Ok, Option, Result, Some}
 use Rattle.power_policy_interface.specs.Capability.{disconnect_byte, disconnect_from}
-use Rattle.power_policy_interface.specs.Psu.{answer_byte, answer_from, mismatch_of, expected_byte, actual_byte}
-use Rattle.power_policy_interface.specs.declared.capability.ConsumerPowerCapability.{ConsumerPowerCapability}
+use Rattle.power_policy_interface.specs.Psu.{kind_from, answer_byte, answer_from, mismatch_of, expected_byte, actual_byte}
 use Rattle.power_policy_interface.specs.declared.capability.DisconnectFlags.{DisconnectFlags}
 use Rattle.power_policy_interface.specs.declared.capability.ProviderPowerCapability.{ProviderPowerCapability}
 use Rattle.power_policy_interface.specs.declared.psu.Mismatch.{Mismatch}
 use Rattle.power_policy_interface.specs.declared.psu.Error.{Error}
 use Rattle.power_policy_interface.specs.declared.psu.StateKind.{StateKind}
-use Rattle.interface_records.specs.Group.{group_bytes, empty_group, consumer_group, provider_group, consumer_from, provider_from}
+use Rattle.interface_records.specs.Group.{group_bytes, empty_group, consumer_group, provider_group, provider_from}
 use Rattle.interface_records.specs.declared.group.Group.{Group}
 use Rattle.interface_display.specs.declared.AvailableConsumer.{AvailableConsumer}
-use Rattle.bytes_groups.specs.Tagged.{no_group}
+use Rattle.bytes_groups.specs.Tagged.{no_group, available_from}
 use Rattle.machine_state.specs.declared.phase.Leaver.{Leaver}
 use Rattle.machine_state.specs.declared.phase.Phase.{Phase}
 use Rattle.machine_state.specs.declared.phase.Stage.{Stage}
@@ -85,18 +84,6 @@ standing (Phase.Providing p c) = record { kind = 4; a = 0; b = 0; c = 0; contrac
 
 -- reading
 
-abbrev pub kinds : List (Option StateKind)
-kinds =
-    Some StateKind.Detached
-    ∷ Some StateKind.Idle
-    ∷ Some StateKind.ConnectedProvider
-    ∷ Some StateKind.ConnectedConsumer
-    ∷ []
-
--- a state above 3 is refused
-abbrev pub kind_from : ℕ → Option StateKind
-kind_from b = get_or kinds b None
-
 abbrev pub mismatch_with : ℕ → Option StateKind → Option (Result (Unit {0}) Error)
 mismatch_with b None = None
 mismatch_with b (Some k) =
@@ -127,15 +114,6 @@ leaving_with i p (Some f) = Some (Phase.Leaving i p f)
 abbrev pub leaving_from : Standing → Option Phase
 leaving_from g = cond (no_group g.contract) (leaving_with g.a g.b (disconnect_from g.c)) None
 
--- a new consumer; none where the flag byte is refused
-abbrev pub new_with : ℕ → Option ConsumerPowerCapability → Option AvailableConsumer
-new_with p None = None
-new_with p (Some c) =
-    Some (record { psu = p; consumer_power_capability = c })
-
-abbrev pub new_from : Group → Option AvailableConsumer
-new_from g = new_with g.number (consumer_from g)
-
 abbrev pub leaver_from : ℕ → Leaver
 leaver_from a = cond (eqb a 0) Leaver.Psu (Leaver.Charger (a - 1))
 
@@ -146,7 +124,7 @@ switching_with l old (Some f) (Some new) =
     Some (Phase.Switching l old f new)
 
 abbrev pub switching_from : Standing → Option Phase
-switching_from g = switching_with (leaver_from g.a) g.b (disconnect_from g.c) (new_from g.contract)
+switching_from g = switching_with (leaver_from g.a) g.b (disconnect_from g.c) (available_from g.contract)
 
 -- a stage with no charger has a 0
 abbrev pub bare : ℕ → Stage → Option Stage
@@ -172,7 +150,7 @@ connecting_with (Some s) (Some new) = Some (Phase.Connecting s new)
 
 abbrev pub connecting_from : Standing → Option Phase
 connecting_from g =
-    cond (eqb g.c 0) (connecting_with (stage_from g.a g.b) (new_from g.contract)) None
+    cond (eqb g.c 0) (connecting_with (stage_from g.a g.b) (available_from g.contract)) None
 
 abbrev pub providing_with : ℕ → Option ProviderPowerCapability → Option Phase
 providing_with p None = None

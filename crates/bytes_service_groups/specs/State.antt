@@ -1,26 +1,12 @@
 -- What is held between events, as the display's 11 bytes and the power state's, 0 Unlimited or 1 Limited.
-use Rattle.std.specs.Prelude.{ℕ, List, [], ◌∷◌, ◌++◌, get_or, None, Option, Some}
+use Rattle.std.specs.Prelude.{ℕ, List, [], ◌∷◌, ◌++◌, None, Option, Some}
+use Rattle.power_policy_service.specs.Provider.{power_byte, power_state_from}
 use Rattle.power_policy_service.specs.declared.provider.PowerState.{PowerState}
 use Rattle.abstract_policy.specs.State.{display_of}
 use Rattle.abstract_policy.specs.declared.state.InternalState.{InternalState}
 use Rattle.bytes_groups.specs.Shown.{shown_bytes, display_shown, display_from}
 use Rattle.interface_display.specs.declared.Display.{Display}
 use Rattle.bytes_groups.specs.declared.shown.Shown.{Shown}
-
--- writing
-
-abbrev pub power_byte : PowerState → ℕ
-power_byte PowerState.Unlimited = 0
-power_byte PowerState.Limited = 1
-
--- reading
-
-abbrev pub powers : List (Option PowerState)
-powers = Some PowerState.Unlimited ∷ Some PowerState.Limited ∷ []
-
--- a power state above 1 is refused
-abbrev pub power_state_from : ℕ → Option PowerState
-power_state_from b = get_or powers b None
 
 abbrev pub state_with : Option Display → Option PowerState → Option InternalState
 state_with None p = None

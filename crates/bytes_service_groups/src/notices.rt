@@ -1,12 +1,12 @@
-// The notices of an event as four groups: provider, consumer disconnected, consumer connected, unconstrained figures.
+// The notices of an event as four groups: provider, consumer disconnected, consumer connected, unconstrained figures. A kind is a byte of the
+// layout, matched once, where its group is read: an enum of kinds would be matched once more.
 ghost use Rattle.std.specs.Prelude.{◌≡◌, ◌+◌, eqb};
 ghost use Rattle.std.proofs.lemmas.List.Edits.{sets};
 ghost use Rattle.bytes_service_groups.specs.Notices.{notices_bytes, notices_from, triple_at, triple_bytes, provider_tagged, disconnected_triple, unconstrained_triple, provider_read, disconnected_read, unconstrained_read};
 
 use bytes_groups::place;
-use bytes_groups::shown::bit;
 use bytes_groups::tagged::{Tagged, is_empty};
-use interface_records::group::Group;
+use interface_records::group::{Group, optional};
 use machine_state::memory::{Disconnected, Notices, ProviderNotice};
 use power_policy_interface::capability::DisconnectFlags;
 use power_policy_interface::service::UnconstrainedState;
@@ -19,25 +19,26 @@ pub struct Triple {
     pub b: u8,
 }
 
-fn provider_tagged(n: ProviderNotice) -> Tagged
+fn provider_tagged(n: Option<ProviderNotice>) -> Tagged
     ensures { result ≡ provider_tagged n }
 {
     match n {
-        ProviderNotice::None => Tagged {
+        None => Tagged {
             tag: 0,
             group: Group::empty(0),
         },
-        ProviderNotice::Disconnected(port) => Tagged {
+        Some(ProviderNotice::Disconnected(port)) => Tagged {
             tag: 1,
             group: Group::empty(port),
         },
-        ProviderNotice::Connected(port, c) => Tagged {
+        Some(ProviderNotice::Connected(port, c)) => Tagged {
             tag: 2,
             group: Group::of(port, c),
         },
     }
 }
 
+// Here and below: two notices with bytes of their own. What they share is that none is three zeros.
 impl From<Option<Disconnected>> for Triple {
     ghost from_gives = { λ n t. t ≡ disconnected_triple n };
 
@@ -61,27 +62,27 @@ impl From<Option<UnconstrainedState>> for Triple {
             None => Triple { tag: 0, a: 0, b: 0 },
             Some(u) => Triple {
                 tag: 1,
-                a: bit(u.unconstrained),
+                a: u8::from(u.unconstrained),
                 b: u.available,
             },
         }
     }
 }
 
-fn read_provider(t: Tagged) -> Option<ProviderNotice>
+fn read_provider(t: Tagged) -> Option<Option<ProviderNotice>>
     ensures { result ≡ provider_read t }
 {
     let group = t.group;
     match t.tag {
-        0 if is_empty(group) => Some(ProviderNotice::None),
-        1 if group.is_zero() => Some(ProviderNotice::Disconnected(group.number)),
-        2 => Some(ProviderNotice::Connected(group.number, group.flagged()?)),
+        0 if is_empty(group) => Some(None),
+        1 if group.is_zero() => Some(Some(ProviderNotice::Disconnected(group.number))),
+        2 => Some(Some(ProviderNotice::Connected(group.number, group.flagged()?))),
         _ => None,
     }
 }
 
 impl Triple {
-    // The three bytes from a place on. A place and no part of the slice, which may be short: zeros stand past its end.
+    // The three bytes from a place on, zeros past the end. A place and no array: it cannot fail (`place::byte`).
     fn at(s: &[u8], at: usize) -> Triple
         ensures { result ≡ triple_at s.now at }
     {
@@ -92,6 +93,7 @@ impl Triple {
         }
     }
 
+    // A method, as the library's to_le_bytes: with a From each call would name the array's length.
     fn bytes(self) -> [u8; 3]
         ensures { result ≡ triple_bytes self }
     {
@@ -102,33 +104,28 @@ impl Triple {
     fn is_zero(self) -> bool
         ensures { result ≡ eqb (self.a + self.b) 0 }
     {
-        self.a == 0 && self.b == 0
+        (self.a, self.b) == (0, 0)
     }
 
     fn disconnected(self) -> Option<Option<Disconnected>>
         ensures { result ≡ disconnected_read self }
     {
-        match self.tag {
-            0 if self.is_zero() => Some(None),
-            1 => Some(Some(Disconnected {
-                port: self.a,
-                flags: DisconnectFlags::try_from(self.b).ok()?,
-            })),
-            _ => None,
-        }
+        let flags = DisconnectFlags::try_from(self.b).ok();
+        let disconnected = flags.map(|flags| Disconnected {
+            port: self.a,
+            flags,
+        });
+        optional(self.tag, self.is_zero(), disconnected)
     }
 
     fn unconstrained(self) -> Option<Option<UnconstrainedState>>
         ensures { result ≡ unconstrained_read self }
     {
-        match self.tag {
-            0 if self.is_zero() => Some(None),
-            1 if self.a <= 1 => Some(Some(UnconstrainedState {
-                unconstrained: self.a == 1,
-                available: self.b,
-            })),
-            _ => None,
-        }
+        let unconstrained = (self.a <= 1).then_some(UnconstrainedState {
+            unconstrained: self.a == 1,
+            available: self.b,
+        });
+        optional(self.tag, self.is_zero(), unconstrained)
     }
 }
 

@@ -1,10 +1,11 @@
-// Where an event stands, as ten bytes: a kind, three bytes that depend on it, and a contract.
+// Where an event stands, as ten bytes: a kind, three bytes that depend on it, and a contract. Each is a byte of the layout, matched once,
+// where it is read: an enum of it would be matched once more.
 ghost use Rattle.std.specs.Prelude.{◌≡◌};
 ghost use Rattle.std.proofs.lemmas.List.Edits.{sets};
-ghost use Rattle.bytes_service_groups.specs.Phase.{phase_bytes, standing_at, standing_bytes, mismatch_in, leaver_byte, stage_byte, stage_charger, closed_standing, contract_of, standing, kind_from, invalid_from, result_from, closed_from, leaving_from, new_from, leaver_from, switching_from, stage_from, connecting_from, providing_from, phase_from};
+ghost use Rattle.bytes_service_groups.specs.Phase.{phase_bytes, standing_at, standing_bytes, mismatch_in, leaver_byte, stage_byte, stage_charger, closed_standing, contract_of, standing, invalid_from, result_from, closed_from, leaving_from, leaver_from, switching_from, stage_from, connecting_from, providing_from, phase_from};
 
 use bytes_groups::place;
-use bytes_groups::tagged::is_empty;
+use bytes_groups::tagged::{available_from, is_empty};
 use interface_display::AvailableConsumer;
 use interface_records::group::Group;
 use machine_state::phase::{Leaver, Phase, Stage};
@@ -22,13 +23,11 @@ pub struct Standing {
     pub contract: Group,
 }
 
+// No From, here and below: the machine's types know no image, and the check refuses an impl whose trait and types are of other crates (orphan-impl).
 fn mismatch_in(r: Result<(), psu::Error>) -> Option<psu::Mismatch>
     ensures { result ≡ mismatch_in r }
 {
-    match r {
-        Ok(()) => None,
-        Err(e) => e.mismatch(),
-    }
+    r.err().and_then(psu::Error::mismatch)
 }
 
 // 0 the PSU, i + 1 charger i.
@@ -122,19 +121,6 @@ impl From<Phase> for Standing {
     }
 }
 
-// The kind of an image's byte.
-fn read_kind(b: u8) -> Option<StateKind>
-    ensures { result ≡ kind_from b }
-{
-    match b {
-        0 => Some(StateKind::Detached),
-        1 => Some(StateKind::Idle),
-        2 => Some(StateKind::ConnectedProvider),
-        3 => Some(StateKind::ConnectedConsumer),
-        _ => None,
-    }
-}
-
 // An InvalidState: with no expected states it carries nothing.
 fn read_invalid(b: u8, c: u8) -> Option<Result<(), psu::Error>>
     ensures { result ≡ invalid_from b c }
@@ -144,7 +130,7 @@ fn read_invalid(b: u8, c: u8) -> Option<Result<(), psu::Error>>
         0 => return None,
         _ => Some(psu::Mismatch {
             expected: b,
-            actual: read_kind(c)?,
+            actual: StateKind::try_from(c).ok()?,
         }),
     };
     Some(Err(psu::Error::InvalidState(m)))
@@ -161,16 +147,6 @@ fn read_result(a: u8, b: u8, c: u8) -> Option<Result<(), psu::Error>>
     }
 }
 
-// A new consumer, none where the flag byte is refused.
-fn read_new(g: Group) -> Option<AvailableConsumer>
-    ensures { result ≡ new_from g }
-{
-    Some(AvailableConsumer {
-        psu: g.number,
-        consumer_power_capability: g.flagged()?,
-    })
-}
-
 fn read_leaver(a: u8) -> Leaver
     ensures { result ≡ leaver_from a }
 {
@@ -180,7 +156,7 @@ fn read_leaver(a: u8) -> Leaver
     }
 }
 
-// The stage of an image's bytes.
+// The stage of an image's bytes. Its number is looked at here alone, and with it the charger's.
 fn read_stage(a: u8, b: u8) -> Option<Stage>
     ensures { result ≡ stage_from a b }
 {
@@ -212,10 +188,10 @@ impl Standing {
     pub fn bytes(self) -> [u8; 10]
         ensures { result ≡ standing_bytes self }
     {
-        let g = self.contract;
-        [
-            self.kind, self.a, self.b, self.c, g.number, g.v0, g.v1, g.c0, g.c1, g.flags,
-        ]
+        let mut bytes = [0; 10];
+        bytes[..4].copy_from_slice(&[self.kind, self.a, self.b, self.c]);
+        bytes[4..].copy_from_slice(&self.contract.bytes());
+        bytes
     }
 
     fn closed(self) -> Option<Phase>
@@ -242,7 +218,7 @@ impl Standing {
     {
         let l = read_leaver(self.a);
         let f = DisconnectFlags::try_from(self.c).ok()?;
-        let new = read_new(self.contract)?;
+        let new = available_from(self.contract)?;
         Some(Phase::Switching(l, self.b, f, new))
     }
 
@@ -253,21 +229,21 @@ impl Standing {
             return None;
         }
         let s = read_stage(self.a, self.b)?;
-        let new = read_new(self.contract)?;
+        let new = available_from(self.contract)?;
         Some(Phase::Connecting(s, new))
     }
 
     fn providing(self) -> Option<Phase>
         ensures { result ≡ providing_from self }
     {
-        if (self.a as u16) + (self.b as u16) + (self.c as u16) != 0 {
+        if (self.a, self.b, self.c) != (0, 0, 0) {
             return None;
         }
         let contract = self.contract;
         Some(Phase::Providing(contract.number, contract.flagged()?))
     }
 
-    // The phase; refused for bytes that none is written as.
+    // The phase; refused for bytes that none is written as. The kind is a byte of the image, matched once, here.
     pub fn read(self) -> Option<Phase>
         ensures { result ≡ phase_from self }
     {

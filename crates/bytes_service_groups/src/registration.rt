@@ -6,10 +6,11 @@ ghost use Rattle.bytes_service_groups.specs.Registration.{head_bytes, registered
 use abstract_policy::state::Registration;
 use bytes_groups::place;
 use bytes_groups::quad::Quad;
+use interface_records::group::optional;
 use power_policy_interface::capability::PowerCapability;
 use power_policy_service::config::Config;
 
-// 19 bytes by value.
+// 19 bytes by value, before they have places: that a registration has one form in bytes is proved of these.
 #[derive(Clone, Copy)]
 pub struct Registered {
     pub ports: u8,
@@ -40,7 +41,7 @@ pub fn registered_at(s: &[u8]) -> Registered
 fn presence(m: Option<u32>) -> u8
     ensures { result ≡ presence m }
 {
-    m.is_some() as u8
+    u8::from(m.is_some())
 }
 
 // The figure of a minimum, 0 for none.
@@ -68,15 +69,11 @@ impl From<Registration> for Registered {
     }
 }
 
-// A presence byte and a figure.
+// A presence byte and a figure. The byte is matched in `optional` alone.
 fn read_minimum(presence: u8, figure: u32) -> Option<Option<u32>>
     ensures { result ≡ minimum_read presence figure }
 {
-    match presence {
-        0 if figure == 0 => Some(None),
-        1 => Some(Some(figure)),
-        _ => None,
-    }
+    optional(presence, figure == 0, Some(figure))
 }
 
 impl Registered {
@@ -84,31 +81,14 @@ impl Registered {
     pub fn bytes(self) -> [u8; 19]
         ensures { result ≡ registered_bytes self }
     {
-        let t = self.threshold;
-        let u = self.unlimited;
-        let l = self.limited;
-        let f = self.figure;
-        [
-            self.ports,
-            self.chargers,
-            t.b0,
-            t.b1,
-            t.b2,
-            t.b3,
-            u.b0,
-            u.b1,
-            u.b2,
-            u.b3,
-            l.b0,
-            l.b1,
-            l.b2,
-            l.b3,
-            self.presence,
-            f.b0,
-            f.b1,
-            f.b2,
-            f.b3,
-        ]
+        let mut bytes = [0; 19];
+        bytes[..2].copy_from_slice(&[self.ports, self.chargers]);
+        bytes[2..6].copy_from_slice(&self.threshold.bytes());
+        bytes[6..10].copy_from_slice(&self.unlimited.bytes());
+        bytes[10..14].copy_from_slice(&self.limited.bytes());
+        bytes[14] = self.presence;
+        bytes[15..].copy_from_slice(&self.figure.bytes());
+        bytes
     }
 
     // The registration; refused for bytes that none is written as.

@@ -2,30 +2,12 @@
 ghost use Rattle.std.specs.Prelude.{◌≡◌, get_or};
 ghost use Rattle.std.proofs.lemmas.List.Edits.{sets};
 ghost use Rattle.bytes_groups.specs.Shown.{shown_at};
-ghost use Rattle.bytes_service_groups.specs.State.{held_bytes, power_byte, power_state_from, state_from};
+ghost use Rattle.bytes_service_groups.specs.State.{held_bytes, state_from};
 
 use abstract_policy::state::InternalState;
 use bytes_groups::place;
 use bytes_groups::shown::Shown;
 use power_policy_service::provider::PowerState;
-
-// 0 Unlimited, 1 Limited.
-fn power_byte(p: PowerState) -> u8
-    ensures { result ≡ power_byte p }
-{
-    p as u8
-}
-
-// The power state of an image's byte.
-fn power_state(b: u8) -> Option<PowerState>
-    ensures { result ≡ power_state_from b }
-{
-    match b {
-        0 => Some(PowerState::Unlimited),
-        1 => Some(PowerState::Limited),
-        _ => None,
-    }
-}
 
 // Bytes 24 to 35; refused for bytes that no state is written as.
 pub fn read_state(s: &[u8]) -> Option<InternalState>
@@ -34,7 +16,7 @@ pub fn read_state(s: &[u8]) -> Option<InternalState>
     let d = Shown::at(s, 24).display()?;
     Some(InternalState {
         current_consumer_state: d.consumer,
-        current_provider_state: power_state(place::byte(s, 35, 0))?,
+        current_provider_state: PowerState::try_from(place::byte(s, 35, 0)).ok()?,
         unconstrained: d.unconstrained,
         connected_providers: d.providers,
     })
@@ -45,5 +27,5 @@ pub fn put_held(image: &mut [u8], s: InternalState, orders: u8)
     ensures { image.new ≡ sets image.old 24 (held_bytes s orders) }
 {
     place::put(image, 24, &Shown::from(s.display()).bytes());
-    place::put(image, 35, &[power_byte(s.current_provider_state), orders]);
+    place::put(image, 35, &[u8::from(s.current_provider_state), orders]);
 }

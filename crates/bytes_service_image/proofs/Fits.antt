@@ -10,7 +10,7 @@ use borrow.Author.Tests.{le-leb, leb-true}
 use Rattle.power_policy_interface.specs.Capability.{capability_fits}
 use Rattle.power_policy_interface.specs.declared.capability.PowerCapability.{PowerCapability}
 use Rattle.interface_display.specs.declared.AvailableConsumer.{AvailableConsumer}
-use Rattle.power_policy_interface.proofs.Conjunction.{and_left, and_right}
+use Rattle.std.proofs.lemmas.Bool.{and_parts}
 use Rattle.bytes_groups.proofs.Quads.{Within}
 use Rattle.bytes_groups.proofs.Consumers.{ConsumerWithin}
 use Rattle.bytes_service_image.specs.Typed.{ConsumerTyped}
@@ -25,8 +25,8 @@ fits c w =
 
 pub within : (c : PowerCapability) → capability_fits c ≡ true → Within c
 within c e =
-    let v = leb-true c.voltage_mv 65535 (and_left (leb c.voltage_mv 65535) (leb c.current_ma 65535) e) in
-    let a = leb-true c.current_ma 65535 (and_right (leb c.voltage_mv 65535) (leb c.current_ma 65535) e) in
+    let v = leb-true c.voltage_mv 65535 (and_parts (leb c.voltage_mv 65535) (leb c.current_ma 65535) e).0 in
+    let a = leb-true c.current_ma 65535 (and_parts (leb c.voltage_mv 65535) (leb c.current_ma 65535) e).1 in
     record { mv = omega arith; ma = omega arith }
 
 pub consumer_typed : (c : Option AvailableConsumer) → ConsumerWithin c → ConsumerTyped c

@@ -10,7 +10,7 @@ use lib.Dec.{eqb, leb, ltb}
 use lib.ListN.{get_or}
 use borrow.Author.Tests.{eqb-true, ne_eqb, leb-true, ltb-true, lt-ltb}
 use Rattle.power_policy_interface.specs.Capability.{disconnect_byte, disconnect_from, reason_byte, capability_fits}
-use Rattle.power_policy_interface.specs.Psu.{kind_number, answer_byte, answer_from, error_byte, mismatch_of, expected_byte, actual_byte}
+use Rattle.power_policy_interface.specs.Psu.{kind_number, kind_from, answer_byte, answer_from, error_byte, mismatch_of, expected_byte, actual_byte}
 use Rattle.power_policy_interface.specs.declared.capability.DisconnectFlags.{DisconnectFlags}
 use Rattle.power_policy_interface.specs.declared.capability.DisconnectReason.{DisconnectReason}
 use Rattle.power_policy_interface.specs.declared.capability.ConsumerPowerCapability.{ConsumerPowerCapability}
@@ -27,15 +27,16 @@ use Rattle.interface_display.specs.declared.AvailableConsumer.{AvailableConsumer
 use Rattle.machine_state.specs.declared.phase.Leaver.{Leaver}
 use Rattle.machine_state.specs.declared.phase.Phase.{Phase}
 use Rattle.machine_state.specs.declared.phase.Stage.{Stage}
-use Rattle.power_policy_interface.proofs.Conjunction.{and_left, and_right}
-use Rattle.bytes_groups.specs.Tagged.{no_group}
+use Rattle.std.proofs.lemmas.Bool.{and_parts}
+use Rattle.bytes_groups.specs.Tagged.{no_group, available_with, available_from}
 use Rattle.bytes_groups.proofs.Places.{Below, one}
 use Rattle.bytes_groups.proofs.Consumers.{GroupBytes, group_bytes_lem, empty_bytes, consumer_bytes_lem, provider_bytes, consumer_within, provider_within, no_group_lem}
-use Rattle.bytes_service_groups.specs.Phase.{standing_at, standing_bytes, mismatch_in, leaver_byte, stage_byte, stage_charger, contract_of, standing, kind_from, mismatch_with, invalid_from, result_from, closed_with, leaving_with, new_with, new_from, leaver_from, switching_with, stage_from, connecting_with, providing_with, phases, phase_from}
+use Rattle.bytes_service_groups.specs.Phase.{standing_at, standing_bytes, mismatch_in, leaver_byte, stage_byte, stage_charger, contract_of, standing, mismatch_with, invalid_from, result_from, closed_with, leaving_with, leaver_from, switching_with, stage_from, connecting_with, providing_with, phases, phase_from}
 use Rattle.bytes_service_groups.specs.declared.phase.Standing.{Standing}
 use Rattle.bytes_service_image.specs.Typed.{PhaseTyped}
 use Rattle.bytes_service_image.specs.WellFormed.{mismatch_fits, error_fits, result_fits, leaver_fits, stage_fits, phase_fits}
 use Rattle.bytes_service_image.proofs.Fits.{fits, within}
+use Rattle.power_policy_interface.proofs.KindBits.{actual_lt}
 
 pub record StandingBytes (g : Standing) : Type 0 where
   pub kind : g.kind < 256
@@ -80,12 +81,6 @@ kind_back StateKind.Idle = refl
 kind_back StateKind.ConnectedProvider = refl
 kind_back StateKind.ConnectedConsumer = refl
 
-kind_lt : (k : StateKind) → kind_number k < 256
-kind_lt StateKind.Detached = omega arith
-kind_lt StateKind.Idle = omega arith
-kind_lt StateKind.ConnectedProvider = omega arith
-kind_lt StateKind.ConnectedConsumer = omega arith
-
 -- the number of a kind that was read, whatever for a refusal
 kind_byte : Option StateKind → ℕ
 kind_byte None = 4
@@ -105,7 +100,7 @@ mismatch_back : (m : Option Mismatch) → mismatch_fits m ≡ true
     → invalid_from (expected_byte m) (actual_byte m) ≡ Some (Err (Error.InvalidState m))
 mismatch_back None h = refl
 mismatch_back (Some m) h =
-    let k = ltb-true 0 m.expected (and_left (ltb 0 m.expected) (leb m.expected 15) h) in
+    let k = ltb-true 0 m.expected (and_parts (ltb 0 m.expected) (leb m.expected 15) h).0 in
     let n : eqb m.expected 0 ≡ false = ne_eqb m.expected 0 (λ e. omega arith) in
     rw (n, kind_back m.actual)
 
@@ -162,12 +157,8 @@ mismatch_in_fits (Err e) h = mismatch_of_fits e h
 expected_lt : (m : Option Mismatch) → mismatch_fits m ≡ true → expected_byte m < 256
 expected_lt None h = omega arith
 expected_lt (Some m) h =
-    let k = leb-true m.expected 15 (and_right (ltb 0 m.expected) (leb m.expected 15) h) in
+    let k = leb-true m.expected 15 (and_parts (ltb 0 m.expected) (leb m.expected 15) h).1 in
     omega arith
-
-actual_lt : (m : Option Mismatch) → actual_byte m < 256
-actual_lt None = omega arith
-actual_lt (Some m) = kind_lt m.actual
 
 -- the three bytes that an answer is read from
 pub record Answered (a b c : ℕ) (r : Result (Unit {0}) Error) : Type 0 where
@@ -323,22 +314,22 @@ stage_read (suc (suc (suc (suc (suc a))))) b s q = absurd (cc)
 
 -- the new consumer
 
-new_back : (new : AvailableConsumer) → new_from (contract_of new) ≡ Some new
-new_back new = ap (new_with new.psu) (consumer_back new.psu new.consumer_power_capability)
+new_back : (new : AvailableConsumer) → available_from (contract_of new) ≡ Some new
+new_back new = ap (available_with new.psu) (consumer_back new.psu new.consumer_power_capability)
 
 pub record Contracted (g : Group) (new : AvailableConsumer) : Type 0 where
   pub written : g ≡ contract_of new
   pub typed : capability_fits new.consumer_power_capability.capability ≡ true
 
 new_told : (g : Group) (new : AvailableConsumer) (o : Option ConsumerPowerCapability) → consumer_from g ≡ o → GroupBytes g
-    → new_with g.number o ≡ Some new → Contracted g new
+    → available_with g.number o ≡ Some new → Contracted g new
 new_told g new None e h q = absurd (cc)
 new_told g new (Some c) e h q =
     let k : record { psu = g.number; consumer_power_capability = c } ≡ new = cc in
     subst (λ (x : AvailableConsumer). Contracted g x) k
     (record { written = consumer_written g c h.digit e; typed = fits c.capability (consumer_within g c h.digit e) })
 
-new_read : (g : Group) (new : AvailableConsumer) → GroupBytes g → new_from g ≡ Some new → Contracted g new
+new_read : (g : Group) (new : AvailableConsumer) → GroupBytes g → available_from g ≡ Some new → Contracted g new
 new_read g new h q = new_told g new (consumer_from g) refl h q
 
 -- reading what was written
@@ -349,7 +340,7 @@ phase_back ports chargers (Phase.Closed r) h e = ap closed_with (result_back r e
 phase_back ports chargers (Phase.Leaving i p f) h e = ap (leaving_with i p) (reason_read_write f)
 phase_back ports chargers (Phase.Switching l old f new) h e =
     rw (
-      leaver_back chargers l h (and_left (leaver_fits chargers l) (ltb old ports && ltb new.psu ports) e),
+      leaver_back chargers l h (and_parts (leaver_fits chargers l) (ltb old ports && ltb new.psu ports) e).0,
       reason_read_write f,
       new_back new,
     )
@@ -366,26 +357,26 @@ phase_bytes_lem ports chargers (Phase.Closed r) m n e t = record {
   contract = empty_bytes 0 (omega arith);
 }
 phase_bytes_lem ports chargers (Phase.Leaving i p f) m n e t =
-    let x = ltb-true i chargers (and_left (ltb i chargers) (ltb p ports) e) in
-    let y = ltb-true p ports (and_right (ltb i chargers) (ltb p ports) e) in
+    let x = ltb-true i chargers (and_parts (ltb i chargers) (ltb p ports) e).0 in
+    let y = ltb-true p ports (and_parts (ltb i chargers) (ltb p ports) e).1 in
     record { kind = omega arith; a = omega arith; b = omega arith; c = reason_lt f; contract = empty_bytes 0 (omega arith) }
 phase_bytes_lem ports chargers (Phase.Switching l old f new) m n e t =
-    let r = and_right (leaver_fits chargers l) (ltb old ports && ltb new.psu ports) e in
-    let x = ltb-true old ports (and_left (ltb old ports) (ltb new.psu ports) r) in
-    let y = ltb-true new.psu ports (and_right (ltb old ports) (ltb new.psu ports) r) in
+    let r = (and_parts (leaver_fits chargers l) (ltb old ports && ltb new.psu ports) e).1 in
+    let x = ltb-true old ports (and_parts (ltb old ports) (ltb new.psu ports) r).0 in
+    let y = ltb-true new.psu ports (and_parts (ltb old ports) (ltb new.psu ports) r).1 in
     record {
       kind = omega arith;
-      a = leaver_lt chargers l n (and_left (leaver_fits chargers l) (ltb old ports && ltb new.psu ports) e);
+      a = leaver_lt chargers l n (and_parts (leaver_fits chargers l) (ltb old ports && ltb new.psu ports) e).0;
       b = omega arith;
       c = reason_lt f;
       contract = consumer_bytes_lem new.psu new.consumer_power_capability (omega arith) (within new.consumer_power_capability.capability t);
     }
 phase_bytes_lem ports chargers (Phase.Connecting s new) m n e t =
-    let y = ltb-true new.psu ports (and_right (stage_fits chargers s) (ltb new.psu ports) e) in
+    let y = ltb-true new.psu ports (and_parts (stage_fits chargers s) (ltb new.psu ports) e).1 in
     record {
       kind = omega arith;
       a = stage_lt s;
-      b = charger_lt chargers s n (and_left (stage_fits chargers s) (ltb new.psu ports) e);
+      b = charger_lt chargers s n (and_parts (stage_fits chargers s) (ltb new.psu ports) e).0;
       c = omega arith;
       contract = consumer_bytes_lem new.psu new.consumer_power_capability (omega arith) (within new.consumer_power_capability.capability t);
     }
@@ -439,7 +430,7 @@ leaving_read g p true e q = leaving_with_lem g p (disconnect_from g.c) refl (no_
 leaving_read g p false e q = absurd (cc)
 
 switching_with_lem : (g : Standing) (p : Phase) (o : Option DisconnectFlags) (n : Option AvailableConsumer) → disconnect_from g.c ≡ o
-    → new_from g.contract ≡ n → StandingBytes g → switching_with (leaver_from g.a) g.b o n ≡ Some p
+    → available_from g.contract ≡ n → StandingBytes g → switching_with (leaver_from g.a) g.b o n ≡ Some p
     → Read (of 2 g.a g.b g.c g.contract) p
 switching_with_lem g p None n e k h q = absurd (cc)
 switching_with_lem g p (Some f) None e k h q =
@@ -454,7 +445,7 @@ switching_with_lem g p (Some f) (Some new) e k h q =
     (record { written = λ i. of 2 (x i) g.b (z i) (v i); typed = w.typed })
 
 connecting_with_lem : (g : Standing) (p : Phase) (o : Option Stage) (n : Option AvailableConsumer) → stage_from g.a g.b ≡ o
-    → new_from g.contract ≡ n → g.c ≡ 0 → StandingBytes g → connecting_with o n ≡ Some p
+    → available_from g.contract ≡ n → g.c ≡ 0 → StandingBytes g → connecting_with o n ≡ Some p
     → Read (of 3 g.a g.b g.c g.contract) p
 connecting_with_lem g p None n e k c h q = absurd (cc)
 connecting_with_lem g p (Some s) None e k c h q =
@@ -470,9 +461,9 @@ connecting_with_lem g p (Some s) (Some new) e k c h q =
     (record { written = λ i. of 3 (x i) (y i) (c i) (v i); typed = w.typed })
 
 connecting_read : (g : Standing) (p : Phase) (t : Bool) → eqb g.c 0 ≡ t → StandingBytes g
-    → cond t (connecting_with (stage_from g.a g.b) (new_from g.contract)) None ≡ Some p
+    → cond t (connecting_with (stage_from g.a g.b) (available_from g.contract)) None ≡ Some p
     → Read (of 3 g.a g.b g.c g.contract) p
-connecting_read g p true e h q = connecting_with_lem g p (stage_from g.a g.b) (new_from g.contract) refl refl (eqb-true g.c 0 e) h q
+connecting_read g p true e h q = connecting_with_lem g p (stage_from g.a g.b) (available_from g.contract) refl refl (eqb-true g.c 0 e) h q
 connecting_read g p false e h q = absurd (cc)
 
 providing_with_lem : (g : Standing) (p : Phase) (o : Option ProviderPowerCapability) → provider_from g.contract ≡ o → g.a + g.b + g.c ≡ 0
@@ -500,7 +491,7 @@ kind_read : (n : ℕ) (g : Standing) (p : Phase) → StandingBytes g → get_or 
     → Read (of n g.a g.b g.c g.contract) p
 kind_read zero g p h q = closed_read g p (no_group g.contract) refl q
 kind_read (suc zero) g p h q = leaving_read g p (no_group g.contract) refl q
-kind_read (suc (suc zero)) g p h q = switching_with_lem g p (disconnect_from g.c) (new_from g.contract) refl refl h q
+kind_read (suc (suc zero)) g p h q = switching_with_lem g p (disconnect_from g.c) (available_from g.contract) refl refl h q
 kind_read (suc (suc (suc zero))) g p h q = connecting_read g p (eqb g.c 0) refl h q
 kind_read (suc (suc (suc (suc zero)))) g p h q = providing_read g p (eqb (g.a + g.b + g.c) 0) refl h q
 kind_read (suc (suc (suc (suc (suc n))))) g p h q = absurd (cc)

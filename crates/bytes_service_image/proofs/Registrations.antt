@@ -11,7 +11,7 @@ use borrow.Author.Tests.{eqb-true, leb-true}
 use Rattle.interface_records.specs.Row.{AllBytes}
 use Rattle.power_policy_service.specs.Config.{MinimumFits, ConfigFits}
 use Rattle.abstract_policy.specs.declared.state.Registration.{Registration}
-use Rattle.power_policy_interface.proofs.Conjunction.{and_left, and_right}
+use Rattle.std.proofs.lemmas.Bool.{and_parts}
 use Rattle.bytes_groups.specs.Quad.{number_quad, number_from, power_from}
 use Rattle.bytes_groups.proofs.Places.{Below, none, one, both}
 use Rattle.bytes_groups.proofs.Quads.{QuadBytes, quad_at_lem, quad_bytes_lem, number_back, number_written, number_within, number_bytes, power_back, power_written, power_within, power_bytes}
@@ -100,8 +100,8 @@ pub registration_bytes : (g : Registration) → registration_fits g ≡ true →
 registration_bytes g e t =
     let c = g.config in
     let m = c.min_consumer_threshold_mw in
-    let p = leb-true g.ports 16 (and_left (leb g.ports 16) (leb g.chargers 8) e) in
-    let q = leb-true g.chargers 8 (and_right (leb g.ports 16) (leb g.chargers 8) e) in
+    let p = leb-true g.ports 16 (and_parts (leb g.ports 16) (leb g.chargers 8) e).0 in
+    let q = leb-true g.chargers 8 (and_parts (leb g.ports 16) (leb g.chargers 8) e).1 in
     record {
       ports = omega arith;
       chargers = omega arith;

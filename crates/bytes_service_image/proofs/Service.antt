@@ -14,7 +14,7 @@ use Rattle.interface_records.specs.Row.{AllBytes}
 use Rattle.abstract_policy.specs.State.{display_of}
 use Rattle.machine_state.specs.declared.memory.Notices.{Notices}
 use Rattle.machine_service.specs.declared.Service.{Service}
-use Rattle.power_policy_interface.proofs.Conjunction.{and_left, and_right}
+use Rattle.std.proofs.lemmas.Bool.{and_parts}
 use Rattle.bytes_groups.specs.Quad.{quad_at, quad_bytes, number_quad, number_from}
 use Rattle.bytes_groups.specs.Shown.{shown_at, shown_bytes, display_shown}
 use Rattle.bytes_groups.specs.Tagged.{tagged_at, tagged_bytes, consumer_tagged, optional_from}
@@ -36,7 +36,8 @@ use Rattle.bytes_groups.proofs.Displays.{shown_at_lem, shown_bytes_lem, display_
 use Rattle.bytes_service_groups.specs.Notices.{notices_bytes, notices_from, triple_at, triple_bytes, provider_tagged, disconnected_triple, unconstrained_triple, provider_read, disconnected_read, unconstrained_read, notices_with}
 use Rattle.bytes_service_groups.specs.Phase.{standing_at, standing_bytes, standing, phase_from}
 use Rattle.bytes_service_groups.specs.Registration.{head_bytes, registered_at, registered_bytes, registered, registration_from}
-use Rattle.bytes_service_groups.specs.State.{held_bytes, power_byte, state_from}
+use Rattle.power_policy_service.specs.Provider.{power_byte}
+use Rattle.bytes_service_groups.specs.State.{held_bytes, state_from}
 use Rattle.bytes_service_groups.specs.declared.notices.Triple.{Triple}
 use Rattle.bytes_service_groups.specs.declared.phase.Standing.{Standing}
 use Rattle.bytes_service_groups.specs.declared.registration.Registered.{Registered}
@@ -71,18 +72,18 @@ parts s e =
     let o = orders_fit s.registration.chargers s.phase s.orders in
     let k = notices_fit s.registration.ports s.memory.notices in
     let w = tells s.phase s.memory.notices in
-    let x = and_left g (t && (p && (n && (o && (k && w))))) e in
-    let r = and_right g (t && (p && (n && (o && (k && w))))) e in
-    let q = and_right t (p && (n && (o && (k && w)))) r in
-    let v = and_right n (o && (k && w)) (and_right p (n && (o && (k && w))) q) in
+    let x = (and_parts g (t && (p && (n && (o && (k && w))))) e).0 in
+    let r = (and_parts g (t && (p && (n && (o && (k && w))))) e).1 in
+    let q = (and_parts t (p && (n && (o && (k && w)))) r).1 in
+    let v = (and_parts n (o && (k && w)) (and_parts p (n && (o && (k && w))) q).1).1 in
     record {
       registration = x;
-      ports = leb-true s.registration.ports 16 (and_left (leb s.registration.ports 16) (leb s.registration.chargers 8) x);
-      chargers = leb-true s.registration.chargers 8 (and_right (leb s.registration.ports 16) (leb s.registration.chargers 8) x);
-      state = and_left t (p && (n && (o && (k && w)))) r;
-      phase = and_left p (n && (o && (k && w))) q;
-      orders = and_left o (k && w) v;
-      notices = and_left k w (and_right o (k && w) v);
+      ports = leb-true s.registration.ports 16 (and_parts (leb s.registration.ports 16) (leb s.registration.chargers 8) x).0;
+      chargers = leb-true s.registration.chargers 8 (and_parts (leb s.registration.ports 16) (leb s.registration.chargers 8) x).1;
+      state = (and_parts t (p && (n && (o && (k && w)))) r).0;
+      phase = (and_parts p (n && (o && (k && w))) q).0;
+      orders = (and_parts o (k && w) v).0;
+      notices = (and_parts k w (and_parts o (k && w) v).1).0;
     }
 
 -- the notices
@@ -99,13 +100,13 @@ notice_parts ports n e =
     let d = disconnected_fits ports n.disconnected in
     let c = consumer_fits ports n.connected in
     let u = unconstrained_fits ports n.unconstrained in
-    let r = and_right p (d && (c && u)) e in
-    let q = and_right d (c && u) r in
+    let r = (and_parts p (d && (c && u)) e).1 in
+    let q = (and_parts d (c && u) r).1 in
     record {
-      provider = and_left p (d && (c && u)) e;
-      disconnected = and_left d (c && u) r;
-      connected = and_left c u q;
-      unconstrained = and_right c u q;
+      provider = (and_parts p (d && (c && u)) e).0;
+      disconnected = (and_parts d (c && u) r).0;
+      connected = (and_parts c u q).0;
+      unconstrained = (and_parts c u q).1;
     }
 
 -- every element is a byte
@@ -177,15 +178,15 @@ record Told (b : List ℕ) (n : Notices) : Type 0 where
   connected : Optional (tagged_at b 57) n.connected
   unconstrained : triple_at b 64 ≡ unconstrained_triple n.unconstrained
 
-notices_read_lem : (b : List ℕ) (n : Notices) (p : Option ProviderNotice) (d : Option (Option Disconnected)) (c : Option (Option AvailableConsumer)) (u : Option (Option UnconstrainedState))
+notices_read_lem : (b : List ℕ) (n : Notices) (p : Option (Option ProviderNotice)) (d : Option (Option Disconnected)) (c : Option (Option AvailableConsumer)) (u : Option (Option UnconstrainedState))
     → AllBytes b → provider_read (tagged_at b 47) ≡ p → disconnected_read (triple_at b 54) ≡ d → optional_from (tagged_at b 57) ≡ c
     → unconstrained_read (triple_at b 64) ≡ u → notices_with p d c u ≡ Some n → Told b n
-notices_read_lem b n None d c u h x y z w q = absurd (let v : ◌≡◌ {A = ℕ} 0 1 = cc in omega arith)
-notices_read_lem b n (Some p) None c u h x y z w q = absurd (let v : ◌≡◌ {A = ℕ} 0 1 = cc in omega arith)
+notices_read_lem b n None d c u h x y z w q = absurd (cc)
+notices_read_lem b n (Some p) None c u h x y z w q = absurd (cc)
 notices_read_lem b n (Some p) (Some d) None u h x y z w q =
-    absurd (let v : ◌≡◌ {A = ℕ} 0 1 = cc in omega arith)
+    absurd (cc)
 notices_read_lem b n (Some p) (Some d) (Some c) None h x y z w q =
-    absurd (let v : ◌≡◌ {A = ℕ} 0 1 = cc in omega arith)
+    absurd (cc)
 notices_read_lem b n (Some p) (Some d) (Some c) (Some u) h x y z w q =
     let k : record { provider = p; disconnected = d; connected = c; unconstrained = u } ≡ n = cc in
     subst (λ (v : Notices). Told b v) k
@@ -217,12 +218,12 @@ groups_read : (b : List ℕ) (s : Service) (g : Option Registration) (t : Option
     → registration_from (registered_at b 1) ≡ g → state_from (shown_at b 24) (get_or b 35 0) ≡ t → phase_from (standing_at b 37) ≡ p → notices_from b ≡ n
     → service_with g (number_from (quad_at b 20)) t (get_or b 36 0) p n ≡ Some s
     → Said b s
-groups_read b s None t p n h x y z w q = absurd (let v : ◌≡◌ {A = ℕ} 0 1 = cc in omega arith)
-groups_read b s (Some g) None p n h x y z w q = absurd (let v : ◌≡◌ {A = ℕ} 0 1 = cc in omega arith)
+groups_read b s None t p n h x y z w q = absurd (cc)
+groups_read b s (Some g) None p n h x y z w q = absurd (cc)
 groups_read b s (Some g) (Some t) None n h x y z w q =
-    absurd (let v : ◌≡◌ {A = ℕ} 0 1 = cc in omega arith)
+    absurd (cc)
 groups_read b s (Some g) (Some t) (Some p) None h x y z w q =
-    absurd (let v : ◌≡◌ {A = ℕ} 0 1 = cc in omega arith)
+    absurd (cc)
 groups_read b s (Some g) (Some t) (Some p) (Some n) h x y z w q =
     let k : record { registration = g; number = number_from (quad_at b 20); memory = record { state = t; notices = n }; orders = get_or b 36 0; phase = p } ≡ s = cc in
     subst (λ (v : Service). Said b v) k
@@ -254,23 +255,23 @@ formed_read : (b : List ℕ) (s x : Service) (t : Bool) → length b ≡ service
 formed_read b s x true l f g e q =
     let k : x ≡ s = cc in
     subst (λ (v : Service). Accepted b v) k (record { size = l; first = f; groups = g; formed = e })
-formed_read b s x false l f g e q = absurd (let v : ◌≡◌ {A = ℕ} 0 1 = cc in omega arith)
+formed_read b s x false l f g e q = absurd (cc)
 
 checked_read : (b : List ℕ) (s : Service) (r : Option Service) → length b ≡ service_length → get_or b 0 0 ≡ 1 → parts_from b ≡ r → checked r ≡ Some s
     → Accepted b s
-checked_read b s None l f g q = absurd (let v : ◌≡◌ {A = ℕ} 0 1 = cc in omega arith)
+checked_read b s None l f g q = absurd (cc)
 checked_read b s (Some x) l f g q = formed_read b s x (well_formed x) l f g refl q
 
 first_read : (b : List ℕ) (s : Service) (t : Bool) → length b ≡ service_length → eqb (get_or b 0 0) 1 ≡ t
     → cond t (checked (parts_from b)) None ≡ Some s → Accepted b s
 first_read b s true l e q = checked_read b s (parts_from b) l (eqb-true (get_or b 0 0) 1 e) refl q
-first_read b s false l e q = absurd (let v : ◌≡◌ {A = ℕ} 0 1 = cc in omega arith)
+first_read b s false l e q = absurd (cc)
 
 size_read : (b : List ℕ) (s : Service) (t : Bool) → eqb (length b) service_length ≡ t
     → cond t (cond (eqb (get_or b 0 0) 1) (checked (parts_from b)) None) None ≡ Some s
     → Accepted b s
 size_read b s true e q = first_read b s (eqb (get_or b 0 0) 1) (eqb-true (length b) service_length e) refl q
-size_read b s false e q = absurd (let v : ◌≡◌ {A = ℕ} 0 1 = cc in omega arith)
+size_read b s false e q = absurd (cc)
 
 accepted : (b : List ℕ) (s : Service) → service_from b ≡ Some s → Accepted b s
 unfolding service_from

@@ -12,11 +12,12 @@ use Rattle.interface_display.specs.declared.Display.{Display}
 use Rattle.power_policy_service.specs.declared.provider.PowerState.{PowerState}
 use Rattle.abstract_policy.specs.State.{display_of}
 use Rattle.abstract_policy.specs.declared.state.InternalState.{InternalState}
-use Rattle.power_policy_interface.proofs.Conjunction.{and_left, and_right}
+use Rattle.std.proofs.lemmas.Bool.{and_parts}
 use Rattle.bytes_groups.specs.Shown.{display_shown, display_from}
 use Rattle.bytes_groups.specs.declared.shown.Shown.{Shown}
 use Rattle.bytes_groups.proofs.Displays.{ShownBytes, DisplayWithin, Displayed, display_back, display_read}
-use Rattle.bytes_service_groups.specs.State.{power_byte, power_state_from, state_with, state_from}
+use Rattle.power_policy_service.specs.Provider.{power_byte, power_state_from}
+use Rattle.bytes_service_groups.specs.State.{state_with, state_from}
 use Rattle.bytes_service_image.specs.Typed.{ConsumerTyped}
 use Rattle.bytes_service_image.specs.WellFormed.{consumer_fits, providers_fit, state_fits}
 use Rattle.bytes_service_image.proofs.Fits.{consumer_typed, consumer_within}
@@ -53,12 +54,12 @@ state_within ports s h e t =
     let a = leb s.unconstrained.available ports in
     let p = providers_fit ports s.connected_providers in
     let m = ltb s.connected_providers.mask (2 ^ ports) in
-    let r = and_right c (a && p) e in
-    let k = leb-true s.unconstrained.available ports (and_left a p r) in
+    let r = (and_parts c (a && p) e).1 in
+    let k = leb-true s.unconstrained.available ports (and_parts a p r).0 in
     record {
-      consumer = consumer_within ports s.current_consumer_state h (and_left c (a && p) e) t;
+      consumer = consumer_within ports s.current_consumer_state h (and_parts c (a && p) e).0 t;
       available = omega arith;
-      mask = mask_lt ports s.connected_providers.mask h (ltb-true s.connected_providers.mask (2 ^ ports) (and_left m (leb (len s.connected_providers) 4) (and_right a p r)));
+      mask = mask_lt ports s.connected_providers.mask h (ltb-true s.connected_providers.mask (2 ^ ports) (and_parts m (leb (len s.connected_providers) 4) (and_parts a p r).1).0);
     }
 
 -- what was read was written so, and is within its types

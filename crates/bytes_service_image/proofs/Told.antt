@@ -3,7 +3,6 @@
 use Rattle.std.specs.Prelude.{None, Option, Some}
 use mathlib.Core.Path.{◌≡◌, refl, ap, subst, ◌∙◌}
 use mathlib.Core.Bool.{Bool, true, false, cond}
-use mathlib.Core.List.{List}
 use Prim.Native.Nat.{ℕ, zero, suc, ◌+◌, ◌≤◌, ◌<◌}
 use native.Mathlib.Omega.{arith}
 use lib.Dec.{eqb, leb}
@@ -15,48 +14,44 @@ use Rattle.power_policy_interface.specs.declared.capability.ProviderPowerCapabil
 use Rattle.power_policy_interface.specs.declared.service.UnconstrainedState.{UnconstrainedState}
 use Rattle.power_policy_interface.proofs.OneByte.{reason_read_write, reason_write_read}
 use Rattle.interface_records.specs.Group.{provider_from, all_zero}
-use Rattle.interface_records.specs.Row.{AllBytes}
 use Rattle.interface_records.specs.declared.group.Group.{Group}
 use Rattle.interface_records.proofs.Groups.{zeros, provider_back, provider_written}
 use Rattle.bytes_groups.specs.Tagged.{no_group}
 use Rattle.bytes_groups.specs.declared.tagged.Tagged.{Tagged}
 use Rattle.bytes_groups.proofs.Places.{Below, none, one}
 use Rattle.bytes_groups.proofs.Consumers.{GroupBytes, TaggedBytes, empty_bytes, provider_bytes, provider_within, no_group_lem}
-use Rattle.bytes_groups.proofs.Displays.{bit_le}
 use Rattle.machine_state.specs.declared.memory.Disconnected.{Disconnected}
 use Rattle.machine_state.specs.declared.memory.ProviderNotice.{ProviderNotice}
-use Rattle.bytes_service_groups.specs.Notices.{triple_at, triple_bytes, provider_tagged, disconnected_triple, unconstrained_triple, connected_with, provider_cases, provider_read, disconnected_with, disconnected_cases, disconnected_read, unconstrained_cases, unconstrained_read}
+use Rattle.bytes_service_groups.specs.Notices.{triple_bytes, provider_tagged, disconnected_triple, unconstrained_triple, connected_with, provider_cases, provider_read, disconnected_with, disconnected_cases, disconnected_read, unconstrained_cases, unconstrained_read}
 use Rattle.bytes_service_image.specs.Typed.{ProviderTyped}
 use Rattle.bytes_service_image.specs.WellFormed.{provider_fits, disconnected_fits, unconstrained_fits}
 use Rattle.bytes_service_groups.specs.declared.notices.Triple.{Triple}
 use Rattle.bytes_service_image.proofs.Fits.{fits, within}
 use Rattle.bytes_service_image.proofs.Phases.{reason_lt}
+use Rattle.power_policy_interface.proofs.Bits.{bit_le, bit_written}
 
 pub record TripleBytes (g : Triple) : Type 0 where
   pub tag : g.tag < 256
   pub a : g.a < 256
   pub b : g.b < 256
 
-pub triple_at_lem : (s : List ℕ) (at : ℕ) → AllBytes s → TripleBytes (triple_at s at)
-triple_at_lem s at h = record { tag = h (at + 0); a = h (at + 1); b = h (at + 2) }
-
 pub triple_bytes_lem : (g : Triple) → TripleBytes g → Below (triple_bytes g)
 triple_bytes_lem g h = one h.tag (one h.a (one h.b none))
 
 -- a provider
 
-pub provider_notice_back : (n : ProviderNotice) → provider_read (provider_tagged n) ≡ Some n
-provider_notice_back ProviderNotice.None = refl
-provider_notice_back (ProviderNotice.Disconnected p) = refl
-provider_notice_back (ProviderNotice.Connected p c) = ap (connected_with p) (provider_back p c)
+pub provider_notice_back : (n : Option ProviderNotice) → provider_read (provider_tagged n) ≡ Some n
+provider_notice_back None = refl
+provider_notice_back (Some (ProviderNotice.Disconnected p)) = refl
+provider_notice_back (Some (ProviderNotice.Connected p c)) = ap (connected_with p) (provider_back p c)
 
-pub provider_notice_bytes : (ports : ℕ) (n : ProviderNotice) → ports ≤ 16 → provider_fits ports n ≡ true → ProviderTyped n
+pub provider_notice_bytes : (ports : ℕ) (n : Option ProviderNotice) → ports ≤ 16 → provider_fits ports n ≡ true → ProviderTyped n
     → TaggedBytes (provider_tagged n)
-provider_notice_bytes ports ProviderNotice.None h e t = record { tag = omega arith; group = empty_bytes 0 (omega arith) }
-provider_notice_bytes ports (ProviderNotice.Disconnected p) h e t =
+provider_notice_bytes ports None h e t = record { tag = omega arith; group = empty_bytes 0 (omega arith) }
+provider_notice_bytes ports (Some (ProviderNotice.Disconnected p)) h e t =
     let k = ltb-true p ports e in
     record { tag = omega arith; group = empty_bytes p (omega arith) }
-provider_notice_bytes ports (ProviderNotice.Connected p c) h e t =
+provider_notice_bytes ports (Some (ProviderNotice.Connected p c)) h e t =
     let k = ltb-true p ports e in
     record { tag = omega arith; group = provider_bytes p c (omega arith) (within c.capability t) }
 
@@ -64,41 +59,41 @@ abbrev of : ℕ → Group → Tagged
 of n g = record { tag = n; group = g }
 
 -- what was read was written so, and is within its types
-pub record Provider (t : Tagged) (n : ProviderNotice) : Type 0 where
+pub record Provider (t : Tagged) (n : Option ProviderNotice) : Type 0 where
   pub written : t ≡ provider_tagged n
   pub typed : ProviderTyped n
 
-no_provider_lem : (g : Group) (n : ProviderNotice) (t : Bool) → no_group g ≡ t
-    → cond t (Some ProviderNotice.None) None ≡ Some n → Provider (of 0 g) n
+no_provider_lem : (g : Group) (n : Option ProviderNotice) (t : Bool) → no_group g ≡ t
+    → cond t (Some None) None ≡ Some n → Provider (of 0 g) n
 no_provider_lem g n true e q =
-    let m : ProviderNotice.None ≡ n = cc in
-    subst (λ (x : ProviderNotice). Provider (of 0 g) x) m (record { written = ap (of 0) (no_group_lem g e); typed = tt })
+    let m : None ≡ n = cc in
+    subst (λ (x : Option ProviderNotice). Provider (of 0 g) x) m (record { written = ap (of 0) (no_group_lem g e); typed = tt })
 no_provider_lem g n false e q = absurd (cc)
 
-provider_left : (g : Group) (n : ProviderNotice) (t : Bool) → all_zero g ≡ t
-    → cond t (Some (ProviderNotice.Disconnected g.number)) None ≡ Some n
+provider_left : (g : Group) (n : Option ProviderNotice) (t : Bool) → all_zero g ≡ t
+    → cond t (Some (Some (ProviderNotice.Disconnected g.number))) None ≡ Some n
     → Provider (of 1 g) n
 provider_left g n true e q =
-    let m : ProviderNotice.Disconnected g.number ≡ n = cc in
-    subst (λ (x : ProviderNotice). Provider (of 1 g) x) m (record { written = ap (of 1) (zeros g e); typed = tt })
+    let m : Some (ProviderNotice.Disconnected g.number) ≡ n = cc in
+    subst (λ (x : Option ProviderNotice). Provider (of 1 g) x) m (record { written = ap (of 1) (zeros g e); typed = tt })
 provider_left g n false e q = absurd (cc)
 
-provider_there : (g : Group) (n : ProviderNotice) (o : Option ProviderPowerCapability) → provider_from g ≡ o → GroupBytes g
+provider_there : (g : Group) (n : Option ProviderNotice) (o : Option ProviderPowerCapability) → provider_from g ≡ o → GroupBytes g
     → connected_with g.number o ≡ Some n → Provider (of 2 g) n
 provider_there g n None e h q = absurd (cc)
 provider_there g n (Some c) e h q =
-    let m : ProviderNotice.Connected g.number c ≡ n = cc in
-    subst (λ (x : ProviderNotice). Provider (of 2 g) x) m
+    let m : Some (ProviderNotice.Connected g.number c) ≡ n = cc in
+    subst (λ (x : Option ProviderNotice). Provider (of 2 g) x) m
     (record { written = ap (of 2) (provider_written g c h.digit e); typed = fits c.capability (provider_within g c h.digit e) })
 
-provider_at : (k : ℕ) (g : Group) (n : ProviderNotice) → GroupBytes g → get_or (provider_cases g) k None ≡ Some n
+provider_at : (k : ℕ) (g : Group) (n : Option ProviderNotice) → GroupBytes g → get_or (provider_cases g) k None ≡ Some n
     → Provider (of k g) n
 provider_at zero g n h q = no_provider_lem g n (no_group g) refl q
 provider_at (suc zero) g n h q = provider_left g n (all_zero g) refl q
 provider_at (suc (suc zero)) g n h q = provider_there g n (provider_from g) refl h q
 provider_at (suc (suc (suc k))) g n h q = absurd (cc)
 
-pub provider_notice_read : (t : Tagged) (n : ProviderNotice) → TaggedBytes t → provider_read t ≡ Some n → Provider t n
+pub provider_notice_read : (t : Tagged) (n : Option ProviderNotice) → TaggedBytes t → provider_read t ≡ Some n → Provider t n
 provider_notice_read t n h q = provider_at t.tag t.group n h.group q
 
 -- a consumer disconnected
@@ -176,11 +171,6 @@ none_told a b n true e q =
     let m : None ≡ n = cc in
     both_zero 0 a b (eqb-true (a + b) 0 e) ∙ ap unconstrained_triple m
 none_told a b n false e q = absurd (cc)
-
-bit_written : (n : ℕ) → n ≤ 1 → n ≡ bit (eqb n 1)
-bit_written zero h = refl
-bit_written (suc zero) h = refl
-bit_written (suc (suc n)) h = absurd (omega arith)
 
 figures_told : (a b : ℕ) (n : Option UnconstrainedState) (t : Bool) → leb a 1 ≡ t
     → cond t (Some (Some (record { unconstrained = eqb a 1; available = b }))) None

@@ -12,10 +12,10 @@ abbrev pub ConsumerTyped : Option AvailableConsumer → Type 0
 ConsumerTyped None = Unit {0}
 ConsumerTyped (Some c) = capability_fits c.consumer_power_capability.capability ≡ true
 
-abbrev pub ProviderTyped : ProviderNotice → Type 0
-ProviderTyped ProviderNotice.None = Unit {0}
-ProviderTyped (ProviderNotice.Disconnected p) = Unit {0}
-ProviderTyped (ProviderNotice.Connected p c) = capability_fits c.capability ≡ true
+abbrev pub ProviderTyped : Option ProviderNotice → Type 0
+ProviderTyped None = Unit {0}
+ProviderTyped (Some (ProviderNotice.Disconnected p)) = Unit {0}
+ProviderTyped (Some (ProviderNotice.Connected p c)) = capability_fits c.capability ≡ true
 
 abbrev pub PhaseTyped : Phase → Type 0
 PhaseTyped (Phase.Closed a) = Unit {0}

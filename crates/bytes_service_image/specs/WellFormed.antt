@@ -1,15 +1,15 @@
 -- The services that calls lead to (promise_invariant), and that an image
 -- is to be read as (docs/STATE.md). A test, so that it can be decided.
-use Rattle.std.specs.Prelude.{ℕ, ◌+◌, ◌*◌, ◌^◌, Bool, true, false, not, ◌&&◌, ◌||◌, leb, ltb, Err, None, Ok, Option, Result, Some}
+use Rattle.std.specs.Prelude.{ℕ, ◌+◌, ◌*◌, Bool, true, false, not, ◌&&◌, ◌||◌, leb, ltb, Err, None, Ok, Option, Result, Some}
 use Rattle.power_policy_interface.specs.Limits.{largest, max_ports, max_chargers}
 use Rattle.power_policy_interface.specs.declared.psu.Error.{Error}
 use Rattle.interface_display.specs.declared.AvailableConsumer.{AvailableConsumer}
 use Rattle.power_policy_interface.specs.declared.psu.Mismatch.{Mismatch}
 use Rattle.power_policy_interface.specs.declared.service.UnconstrainedState.{UnconstrainedState}
-use Rattle.interface_display.specs.Providers.{len, max_connected_providers}
-use Rattle.interface_display.specs.declared.providers.Providers.{Providers}
+use Rattle.abstract_policy.specs.State.{display_of}
 use Rattle.abstract_policy.specs.declared.state.InternalState.{InternalState}
 use Rattle.abstract_policy.specs.declared.state.Registration.{Registration}
+pub use Rattle.bytes_groups.specs.Shown.{consumer_fits, providers_fit, display_fits}
 use Rattle.machine_state.specs.declared.memory.Disconnected.{Disconnected}
 use Rattle.machine_state.specs.declared.memory.Notices.{Notices}
 use Rattle.machine_state.specs.declared.memory.ProviderNotice.{ProviderNotice}
@@ -24,18 +24,8 @@ abbrev pub registration_fits : Registration → Bool
 registration_fits g = leb g.ports max_ports && leb g.chargers max_chargers
 
 -- what is held: every port is registered, and at most four are tracked
-
-abbrev pub consumer_fits : ℕ → Option AvailableConsumer → Bool
-consumer_fits ports None = true
-consumer_fits ports (Some c) = ltb c.psu ports
-
-abbrev pub providers_fit : ℕ → Providers → Bool
-providers_fit ports t = ltb t.mask (2 ^ ports) && leb (len t) max_connected_providers
-
 abbrev pub state_fits : ℕ → InternalState → Bool
-state_fits ports s =
-    consumer_fits ports s.current_consumer_state
-    && (leb s.unconstrained.available ports && providers_fit ports s.connected_providers)
+state_fits ports s = display_fits ports (display_of s)
 
 -- the phase: every port and charger is registered; expected states are 1 to 15
 
@@ -116,10 +106,10 @@ orders_fit c p k = leb (orders_least p) k && leb k (orders_most c p)
 
 -- the notices: every port is registered
 
-abbrev pub provider_fits : ℕ → ProviderNotice → Bool
-provider_fits ports ProviderNotice.None = true
-provider_fits ports (ProviderNotice.Disconnected p) = ltb p ports
-provider_fits ports (ProviderNotice.Connected p c) = ltb p ports
+abbrev pub provider_fits : ℕ → Option ProviderNotice → Bool
+provider_fits ports None = true
+provider_fits ports (Some (ProviderNotice.Disconnected p)) = ltb p ports
+provider_fits ports (Some (ProviderNotice.Connected p c)) = ltb p ports
 
 abbrev pub disconnected_fits : ℕ → Option Disconnected → Bool
 disconnected_fits ports None = true
@@ -137,15 +127,15 @@ notices_fit ports n =
 
 -- what an event may have told of when it stands there
 
-abbrev pub none_connected : ProviderNotice → Bool
-none_connected ProviderNotice.None = true
-none_connected (ProviderNotice.Disconnected p) = true
-none_connected (ProviderNotice.Connected p c) = false
+abbrev pub none_connected : Option ProviderNotice → Bool
+none_connected None = true
+none_connected (Some (ProviderNotice.Disconnected p)) = true
+none_connected (Some (ProviderNotice.Connected p c)) = false
 
-abbrev pub no_provider : ProviderNotice → Bool
-no_provider ProviderNotice.None = true
-no_provider (ProviderNotice.Disconnected p) = false
-no_provider (ProviderNotice.Connected p c) = false
+abbrev pub no_provider : Option ProviderNotice → Bool
+no_provider None = true
+no_provider (Some (ProviderNotice.Disconnected p)) = false
+no_provider (Some (ProviderNotice.Connected p c)) = false
 
 abbrev pub not_disconnected : Option Disconnected → Bool
 not_disconnected None = true

@@ -1,42 +1,19 @@
 // Whether a service is well formed (docs/STATE.md): a test for each part.
 ghost use Rattle.std.specs.Prelude.{◌≡◌};
-ghost use Rattle.bytes_service_image.specs.WellFormed.{registration_fits, consumer_fits, providers_fit, state_fits, mismatch_fits, error_fits, result_fits, leaver_fits, stage_fits, phase_fits, stage_least, orders_least, leaver_most, stage_most, orders_most, orders_fit, provider_fits, disconnected_fits, unconstrained_fits, notices_fit, none_connected, no_provider, not_connected, not_updated, nothing_told, tells, number_fits, event_fits, well_formed};
+ghost use Rattle.bytes_service_image.specs.WellFormed.{registration_fits, mismatch_fits, error_fits, result_fits, leaver_fits, stage_fits, phase_fits, stage_least, orders_least, leaver_most, stage_most, orders_most, orders_fit, provider_fits, notices_fit, none_connected, no_provider, not_connected, not_updated, nothing_told, tells, number_fits, event_fits, well_formed};
 
-use abstract_policy::state::{InternalState, Registration};
-use interface_display::AvailableConsumer;
-use interface_display::providers::{MAX_CONNECTED_PROVIDERS, Providers};
+use abstract_policy::state::Registration;
+use bytes_groups::shown;
 use machine_service::Service;
-use machine_state::memory::{Disconnected, Notices, ProviderNotice};
+use machine_state::memory::{Notices, ProviderNotice};
 use machine_state::phase::{Leaver, Phase, Stage};
 use power_policy_interface::limits::{LARGEST, MAX_CHARGERS, MAX_PORTS};
 use power_policy_interface::psu;
-use power_policy_interface::service::UnconstrainedState;
 
 fn registration_fits(g: Registration) -> bool
     ensures { result ≡ registration_fits g }
 {
     g.ports <= MAX_PORTS && g.chargers <= MAX_CHARGERS
-}
-
-fn consumer_fits(ports: u8, c: Option<AvailableConsumer>) -> bool
-    ensures { result ≡ consumer_fits ports c }
-{
-    c.is_none_or(|a| a.psu < ports)
-}
-
-// No port is tracked past those registered, and at most four are.
-fn providers_fit(ports: u8, t: Providers) -> bool
-    ensures { result ≡ providers_fit ports t }
-{
-    (MAX_PORTS <= ports || t.mask >> ports == 0) && t.len() <= MAX_CONNECTED_PROVIDERS
-}
-
-fn state_fits(ports: u8, s: InternalState) -> bool
-    ensures { result ≡ state_fits ports s }
-{
-    consumer_fits(ports, s.current_consumer_state)
-        && s.unconstrained.available <= ports
-        && providers_fit(ports, s.connected_providers)
 }
 
 // Expected states are 1 to 15.
@@ -163,48 +140,35 @@ fn orders_fit(chargers: u8, p: Phase, orders: u8) -> bool
 
 // The notices: every port is registered.
 
-fn provider_fits(ports: u8, n: ProviderNotice) -> bool
+fn provider_fits(ports: u8, n: Option<ProviderNotice>) -> bool
     ensures { result ≡ provider_fits ports n }
 {
-    match n {
-        ProviderNotice::None => true,
+    n.is_none_or(|n| match n {
         ProviderNotice::Disconnected(p) | ProviderNotice::Connected(p, _) => p < ports,
-    }
-}
-
-fn disconnected_fits(ports: u8, n: Option<Disconnected>) -> bool
-    ensures { result ≡ disconnected_fits ports n }
-{
-    n.is_none_or(|d| d.port < ports)
-}
-
-fn unconstrained_fits(ports: u8, n: Option<UnconstrainedState>) -> bool
-    ensures { result ≡ unconstrained_fits ports n }
-{
-    n.is_none_or(|u| u.available <= ports)
+    })
 }
 
 fn notices_fit(ports: u8, n: Notices) -> bool
     ensures { result ≡ notices_fit ports n }
 {
     provider_fits(ports, n.provider)
-        && disconnected_fits(ports, n.disconnected)
-        && consumer_fits(ports, n.connected)
-        && unconstrained_fits(ports, n.unconstrained)
+        && n.disconnected.is_none_or(|d| d.port < ports)
+        && n.connected.is_none_or(|c| c.psu < ports)
+        && n.unconstrained.is_none_or(|u| u.available <= ports)
 }
 
 // What an event may have told of when it stands there.
 
-fn none_connected(n: ProviderNotice) -> bool
+fn none_connected(n: Option<ProviderNotice>) -> bool
     ensures { result ≡ none_connected n }
 {
-    !matches!(n, ProviderNotice::Connected(_, _))
+    !matches!(n, Some(ProviderNotice::Connected(_, _)))
 }
 
-fn no_provider(n: ProviderNotice) -> bool
+fn no_provider(n: Option<ProviderNotice>) -> bool
     ensures { result ≡ no_provider n }
 {
-    matches!(n, ProviderNotice::None)
+    n.is_none()
 }
 
 fn not_connected(n: Notices) -> bool
@@ -259,6 +223,6 @@ pub fn well_formed(s: Service) -> bool
     ensures { result ≡ well_formed s }
 {
     registration_fits(s.registration)
-        && state_fits(s.registration.ports, s.memory.state)
+        && shown::fits(s.registration.ports, s.memory.state.display())
         && event_fits(s)
 }

@@ -149,16 +149,16 @@ numbered m s p zero e z = empty (zeros s) e
   where
     empty : (t : Bool) → cond t (Some none) None ≡ Some p → p.number ≡ m
     empty true q = absurd (z (let y : none ≡ p = cc in ap (λ (x : EventPacket). x.number) (sym y)))
-    empty false q = absurd (let y : ◌≡◌ {A = ℕ} 0 1 = cc in omega arith)
+    empty false q = absurd (cc)
 numbered m s p (suc zero) e z = full (head_fits m (get_or s 1 0) (get_or s 2 0) (get_or s 3 0)) (notices_from (get_or s 3 0) s) e
   where
     full : (t : Bool) (n : Option Notices) → cond t (packet_of m (get_or s 1 0) (get_or s 2 0) n) None ≡ Some p → p.number ≡ m
-    full true None q = absurd (let y : ◌≡◌ {A = ℕ} 0 1 = cc in omega arith)
+    full true None q = absurd (cc)
     full true (Some n) q =
         let y : record { number = m; answer = get_or s 1 0; orders = get_or s 2 0; notices = n } ≡ p = cc in
         ap (λ (x : EventPacket). x.number) (sym y)
-    full false n q = absurd (let y : ◌≡◌ {A = ℕ} 0 1 = cc in omega arith)
-numbered m s p (suc (suc c)) e z = absurd (let y : ◌≡◌ {A = ℕ} 0 1 = cc in omega arith)
+    full false n q = absurd (cc)
+numbered m s p (suc (suc c)) e z = absurd (cc)
 
 slot_number : (m : ℕ) (s : List ℕ) (p : EventPacket) → slot_from m s ≡ Some p → (p.number ≡ 0 → ⊥) → p.number ≡ m
 slot_number m s p e z = numbered m s p (get_or s 0 0) e z

@@ -2,46 +2,36 @@
 -- Assumes nothing.
 use Rattle.std.specs.Prelude.{None, Option, Some}
 use mathlib.Core.Path.{◌≡◌, refl, ap, sym, ◌∙◌}
-use mathlib.Core.List.{List, ◌∷◌, ◌++◌}
+use mathlib.Core.List.{List, ◌++◌}
 use Prim.Native.Nat.{ℕ, zero, suc, ◌+◌, ◌*◌, ◌%◌}
 use native.Mathlib.Omega.{arith}
-use lib.ListN.{length, drop, replicate, replicate-append-replicate}
+use lib.ListN.{replicate, replicate-append-replicate}
 use lib.Seq.{sets}
 use Rattle.interface_records.specs.Row.{written}
 use Rattle.interface_display.specs.declared.Display.{Display}
 use Rattle.interface_display.specs.declared.packet.Picture.{Picture}
 use Rattle.desk_follower.specs.Held as held
 use Rattle.desk_follower.specs.Held.{nothing, held_for}
-use Rattle.desk_follower.specs.Follower.{lost, showing, at}
+use Rattle.desk_follower.specs.Follower.{showing, at}
 use Rattle.desk_follower.specs.declared.Follower.{Follower}
 use Rattle.desk_follower.specs.declared.held.Held.{Held}
 use Rattle.desk_follower.proofs.Kept.{none_at}
-use Rattle.bytes_groups.specs.Quad.{quad_bytes, number_quad}
 use Rattle.bytes_follower_image.specs.Slot.{slot_bytes}
-use Rattle.bytes_follower_image.specs.Held.{slots, held_bytes, held_from}
+use Rattle.bytes_follower_image.specs.Held.{slots, held_bytes}
 use Rattle.bytes_follower_image.specs.Image.{lost_bytes, showing_bytes, follower_from, shown_read, ImageOf, shown_head}
-use Rattle.bytes_follower_image.proofs.OneImage.{fits, lost_back, held_back, follower_length_lem, follower_read_write}
+use Rattle.bytes_follower_image.proofs.OneImage.{follower_read_write}
 
 -- read as
 
-pub read_lost : (b : List ℕ) (floor : ℕ) → b ≡ lost_bytes floor → follower_from b ≡ Some (lost floor)
-read_lost b floor e = ap follower_from e ∙ lost_back floor
-
 pub read_showing : (b : List ℕ) (s : Picture) (h : Held) → ImageOf b s h → follower_from b ≡ Some (showing s h)
 read_showing b s h i = ap follower_from i.bytes ∙ follower_read_write (showing s h) i.fits
-
-pub held_read : (b : List ℕ) (s : Picture) (h : Held) → ImageOf b s h → held_from s.number (drop 17 b) ≡ Some h
-held_read b s h i = ap (λ (l : List ℕ). held_from s.number (drop 17 l)) i.bytes ∙ held_back s h (fits (showing s h) i.fits)
 
 pub read_refused : (b : List ℕ) → None ≡ shown_read (follower_from b) → follower_from b ≡ None
 read_refused b e = by (follower_from b) e
   where
     by : (o : Option Follower) → None ≡ shown_read o → o ≡ None
     by None q = refl
-    by (Some f) q = absurd (let z : ◌≡◌ {A = ℕ} 0 1 = cc in omega arith)
-
-pub image_length : (b : List ℕ) (s : Picture) (h : Held) → ImageOf b s h → length b ≡ 241
-image_length b s h i = ap length i.bytes ∙ follower_length_lem (showing s h)
+    by (Some f) q = absurd (cc)
 
 -- with nothing held the slots are zeros
 
@@ -56,9 +46,6 @@ row_nothing m (suc k) =
 
 pub held_nothing : (n : ℕ) → held_bytes n nothing ≡ replicate 224 0
 held_nothing n = row_nothing (n + 2) 7
-
-pub lost_raised : (b : List ℕ) (floor m : ℕ) → b ≡ lost_bytes floor → sets b 0 (2 ∷ 0 ∷ quad_bytes (number_quad m)) ≡ lost_bytes m
-lost_raised b floor m e = ap (λ (l : List ℕ). sets l 0 (2 ∷ 0 ∷ quad_bytes (number_quad m))) e
 
 pub lost_shown : (b : List ℕ) (floor n : ℕ) (d : Display) → b ≡ lost_bytes floor → sets b 0 (shown_head n d) ≡ showing_bytes (at n d) nothing
 lost_shown b floor n d e = ap (λ (l : List ℕ). sets l 0 (shown_head n d)) e ∙ ap (λ (l : List ℕ). shown_head n d ++ l) (sym (held_nothing n))

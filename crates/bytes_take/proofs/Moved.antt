@@ -28,15 +28,15 @@ module _ (b : List ℕ) (by : ℕ) (e : length b ≡ 241) (l : by ≤ 224) where
 
   -- then the last bytes are cleared
   pub moved_cleared : (c f : List ℕ) (n : ℕ) → c ≡ paste b 17 (drop (17 + by) b) (length b - (17 + by)) → f ≡ replicate n 0 → n ≡ by
-      → put_mid (241 - by) (length c - (241 - by)) c f ≡ take 17 b ++ (drop (17 + by) b ++ replicate by 0)
+      → put_mid (241 - by) (241 - (241 - by)) c f ≡ take 17 b ++ (drop (17 + by) b ++ replicate by 0)
   moved_cleared c f n p q r =
       let m : c ≡ kept ++ drop (241 - by) b = p ∙ copied in
       let k = length-append kept (drop (241 - by) b) in
       let z : length c ≡ 241 = ap length m ∙ omega (arith, k, kept_length, length-drop (241 - by) b, e, l) in
       let t : take (241 - by) c ≡ kept = ap (take (241 - by)) m ∙ take_at kept (drop (241 - by) b) (241 - by) kept_length in
       let g : f ≡ replicate by 0 = q ∙ ap (λ (j : ℕ). replicate j 0) r in
-      let x : post_of (241 - by) (length c - (241 - by)) c ≡ [] =
-      drop_of_length-le (drop (241 - by) c) {i = length c - (241 - by)} (omega (arith, length-drop (241 - by) c)) in
+      let x : post_of (241 - by) (241 - (241 - by)) c ≡ [] =
+      drop_of_length-le (drop (241 - by) c) {i = 241 - (241 - by)} (omega (arith, z, length-drop (241 - by) c)) in
       (λ i. t i ++ (g i ++ x i))
       ∙ (ap (λ (s : List ℕ). kept ++ s) (append-nil (replicate by 0)) ∙ append_assoc (take 17 b) (drop (17 + by) b) (replicate by 0))
 

@@ -28,25 +28,21 @@ use Rattle.bytes_follower_image.specs.Slot.{slot_bytes}
 use Rattle.bytes_follower_image.specs.Held.{slots, held_bytes}
 use Rattle.bytes_follower_image.specs.Fits.{image_fits}
 use Rattle.bytes_follower_image.specs.Image.{showing_bytes, follower_bytes, ImageOf, shown_head}
-use Rattle.bytes_follower_image.proofs.Notices.{and_left, and_right}
 use Rattle.bytes_follower_image.proofs.Slots.{parts, Told, slot_length}
 use Rattle.bytes_follower_image.proofs.Rows.{owner, owned}
 use Rattle.bytes_follower_image.proofs.OneImage.{Fits, fits, held_told, held_next_lem}
 use Rattle.bytes_take.specs.Taken.{none_in}
+use Rattle.desk_follower.proofs.Places.{each_none}
+use Rattle.std.proofs.lemmas.List.{set-append_right}
 
 -- lists
-
-set_after : (xs ys : List ℕ) (i a : ℕ) → set (xs ++ ys) (length xs + i) a ≡ xs ++ set ys i a
-set_after [] ys i a = let e : 0 + i ≡ i = omega arith in ap (λ (j : ℕ). set ys j a) e
-set_after (x ∷ xs) ys i a =
-    let e : suc (length xs) + i ≡ suc (length xs + i) = omega arith in
-    ap (λ (j : ℕ). set (x ∷ (xs ++ ys)) j a) e ∙ ap (λ (l : List ℕ). x ∷ l) (set_after xs ys i a)
 
 sets_after : (xs ys : List ℕ) (i : ℕ) (vs : List ℕ) → sets (xs ++ ys) (length xs + i) vs ≡ xs ++ sets ys i vs
 sets_after xs ys i [] = refl
 sets_after xs ys i (v ∷ vs) =
     let e : suc (length xs + i) ≡ length xs + suc i = omega arith in
-    ap (λ (l : List ℕ). sets l (suc (length xs + i)) vs) (set_after xs ys i v)
+    let d : length xs + i - length xs ≡ i = omega arith in
+    ap (λ (l : List ℕ). sets l (suc (length xs + i)) vs) (set-append_right xs ys (length xs) (length xs + i) v refl (omega arith) ∙ ap (λ (j : ℕ). xs ++ set ys j v) d)
     ∙ (ap (λ (j : ℕ). sets (xs ++ set ys i v) j vs) e ∙ sets_after xs (set ys i v) (suc i) vs)
 
 -- the first byte of slot k
@@ -85,16 +81,7 @@ told_byte m p t = by t.told
         let l : p.number ≡ 0 → ⊥ = λ z. omega (arith, z, k.positive) in
         full q.0 (omega (arith, leb-true p.number largest k.number, q.0)) (rw (ne_eqb p.number 0 l))
 
--- nothing held, place by place
-
-none_numbers : (k : ℕ) (h : Held) → none_held k h ≡ true → (j : ℕ) → j < k → (packet_at h j).number ≡ 0
-unfolding none_held
-none_numbers zero h e j l = absurd (omega (arith, l))
-none_numbers (suc k) h e j l = by (eqb j k) refl (none_numbers k h (and_left (none_held k h) (eqb (packet_at h k).number 0) e) j)
-  where
-    by : (t : Bool) → eqb j k ≡ t → (j < k → (packet_at h j).number ≡ 0) → (packet_at h j).number ≡ 0
-    by true t f = ap (λ (i : ℕ). (packet_at h i).number) (eqb-true j k t) ∙ eqb-true _ _ (and_right (none_held k h) (eqb (packet_at h k).number 0) e)
-    by false t f = f (omega (arith, l, eqb-false j k t))
+-- nothing held
 
 nothing_none : none_held 8 nothing ≡ true
 unfolding none_held
@@ -170,7 +157,7 @@ module _ (b : List ℕ) (s : Picture) (h : Held) (i : ImageOf b s h) where
     where
       by : Byte (s.number + 2 + k) (held_for h (s.number + 2 + k)) → get_or b (17 + k * 32) 0 ≡ 0
       by (empty z q) = first_byte b s h k i l ∙ q
-      by (full z u q) = absurd (omega (arith, z, none_numbers 8 h e ((s.number + 2 + k) % 8) (mod8 (s.number + 2 + k))))
+      by (full z u q) = absurd (omega (arith, z, each_none 8 h e ((s.number + 2 + k) % 8) (mod8 (s.number + 2 + k))))
 
   sum_zero : none_held 8 h ≡ true → none_in b ≡ true
   sum_zero e =

@@ -23,21 +23,14 @@ use bytes_groups::place;
 use desk_follower::Shown;
 use interface_display::State;
 use interface_display::packet::{EventPacket, Packet, Picture};
-use power_policy_interface::limits::WINDOW;
+use power_policy_interface::limits::{FOLLOWER_IMAGE, WINDOW};
 use power_policy_interface::refusal::Refusal;
 
 // Whether no slot holds a packet.
 fn none_held(image: &[u8]) -> bool
     ensures { result ≡ none_in image.now }
 {
-    let a = place::byte(image, 17, 0) as u16;
-    let b = place::byte(image, 49, 0) as u16;
-    let c = place::byte(image, 81, 0) as u16;
-    let d = place::byte(image, 113, 0) as u16;
-    let e = place::byte(image, 145, 0) as u16;
-    let f = place::byte(image, 177, 0) as u16;
-    let g = place::byte(image, 209, 0) as u16;
-    a + b + c + d + e + f + g == 0
+    (0..7).all(|k| place::byte(image, 17 + 32 * k, 0) == 0)
 }
 
 // Lost: an event number raises the floor; a picture numbered at least the floor is shown, another is dropped.
@@ -54,7 +47,7 @@ fn take_lost(image: &mut [u8], floor: u32, p: Packet)
     }
 }
 
-// Holds a packet in the slot at a place, unless one is held there.
+// Holds a packet in the slot at a place, unless one is held there. A place and no part of the image: of a part no contract would say that the other bytes stay.
 fn hold(image: &mut [u8], at: usize, e: EventPacket)
     ensures { image.new ≡ cond (eqb (get_or image.old at 0) 0) (sets image.old at (slot_bytes e)) image.old }
 {
@@ -64,17 +57,18 @@ fn hold(image: &mut [u8], at: usize, e: EventPacket)
 }
 
 // Shows a picture in an image that shows n: the slots up to its number are dropped.
-fn show_after(image: &mut [u8], n: u32, q: Picture)
-    requires { (length image.old ≡ follower_length) × (n < q.number) }
+fn show_after(image: &mut [u8; FOLLOWER_IMAGE], n: u32, q: Picture)
+    requires { n < q.number }
     ensures { image.new ≡ sets (take 17 image.old ++ (drop (17 + (q.number - n) * 32) image.old ++ replicate (min 224 ((q.number - n) * 32)) 0)) 0 (shown_head q.number q.display) }
 {
     drop_slots(image, q.number - n);
     put_shown(image, q);
 }
 
-// A picture above the one shown, and the packets that follow it in turn. With nothing held none does.
-fn advance(image: &mut [u8], s: Picture, p: Picture)
-    requires { (length image.old ≡ follower_length) × (s.number < p.number) }
+// A picture above the one shown, and the packets that follow it in turn. With nothing held none does. Here and below each contract tells of h, what
+// the follower holds, which no field has: a struct with a model over the lent bytes would have to make it.
+fn advance(image: &mut [u8; FOLLOWER_IMAGE], s: Picture, p: Picture)
+    requires { s.number < p.number }
     ensures { (h : Held) → ImageOf image.old s h → image.new ≡ follower_bytes (outcome (greatest p.number window h) (turned window p.number p.display h) p.number (above p.number window h)) }
 {
     if none_held(image) {
@@ -91,8 +85,8 @@ fn advance(image: &mut [u8], s: Picture, p: Picture)
 }
 
 // The next event: its notices act, or its error makes the follower lost.
-fn take_next(image: &mut [u8], s: Picture, e: EventPacket)
-    requires { (length image.old ≡ follower_length) × (e.number ≡ s.number + 1) }
+fn take_next(image: &mut [u8; FOLLOWER_IMAGE], s: Picture, e: EventPacket)
+    requires { e.number ≡ s.number + 1 }
     ensures { (h : Held) → ImageOf image.old s h → image.new ≡ follower_bytes (taken_at (Shown.Picture s) h (Packet.Event e)) }
 {
     if e.answer != 0 {
@@ -109,8 +103,7 @@ fn take_next(image: &mut [u8], s: Picture, e: EventPacket)
 }
 
 // Showing: an event packet numbered n or less is dropped; beyond n + 8 it makes the follower lost; n + 1 is the next; the others are held.
-fn take_event(image: &mut [u8], s: Picture, e: EventPacket)
-    requires { length image.old ≡ follower_length }
+fn take_event(image: &mut [u8; FOLLOWER_IMAGE], s: Picture, e: EventPacket)
     ensures { (h : Held) → ImageOf image.old s h → image.new ≡ follower_bytes (taken_at (Shown.Picture s) h (Packet.Event e)) }
 {
     if e.number <= s.number {
@@ -129,8 +122,7 @@ fn take_event(image: &mut [u8], s: Picture, e: EventPacket)
 }
 
 // Showing: a picture numbered above n is shown, another is dropped.
-fn take_picture(image: &mut [u8], s: Picture, p: Picture)
-    requires { length image.old ≡ follower_length }
+fn take_picture(image: &mut [u8; FOLLOWER_IMAGE], s: Picture, p: Picture)
     ensures { (h : Held) → ImageOf image.old s h → image.new ≡ follower_bytes (taken_at (Shown.Picture s) h (Packet.Picture p)) }
 {
     if s.number < p.number {
@@ -139,8 +131,7 @@ fn take_picture(image: &mut [u8], s: Picture, p: Picture)
 }
 
 // Showing: an event packet or a picture.
-fn take_shown(image: &mut [u8], s: Picture, p: Packet)
-    requires { length image.old ≡ follower_length }
+fn take_shown(image: &mut [u8; FOLLOWER_IMAGE], s: Picture, p: Packet)
     ensures { (h : Held) → ImageOf image.old s h → image.new ≡ follower_bytes (taken_at (Shown.Picture s) h p) }
 {
     match p {
@@ -154,6 +145,7 @@ pub fn take(image: &mut [u8], p: Packet) -> Result<(), Refusal>
     ensures value { result ≡ taken_answer (follower_from image.old) }
     ensures image_after { image.new ≡ taken_image image.old p }
 {
+    let image: &mut [u8; FOLLOWER_IMAGE] = image.as_mut_array().ok_or(Refusal::Image)?;
     match read_shown(image).ok_or(Refusal::Image)? {
         Shown::Lost(floor) => take_lost(image, floor, p),
         Shown::Picture(s) => take_shown(image, s, p),

@@ -1,17 +1,18 @@
 -- Well formed is decided by a test: place by place, by equations and orders of numbers.
 -- Assumes nothing.
 use mathlib.Core.Path.{◌≡◌, refl, ap, sym, ◌∙◌}
-use mathlib.Core.Bool.{Bool, true, false, ◌&&◌, ◌||◌}
+use mathlib.Core.Bool.{Bool, true, false, ◌&&◌}
 use mathlib.Core.List.{List}
-use mathlib.Core.Logic.{◌⊎◌, inl, inr, ⊎_elim}
+use mathlib.Core.Logic.{inl, inr, ⊎_elim}
 use Prim.Native.Nat.{ℕ, zero, suc, ◌+◌, ◌%◌, ◌<◌}
 use native.Mathlib.Omega.{arith}
 use lib.Dec.{eqb, leb, ltb}
 use lib.ListN.{length, replicate, take}
 use lib.Seq.{ext_get_or}
 use borrow.Author.Tests.{eqb-true, leb-true, eq-eqb, le-leb, ltb-true, ltb-false}
+use Rattle.std.proofs.lemmas.Bool.{or_cases, or_right}
 use Rattle.power_policy_interface.specs.Limits.{largest}
-use Rattle.power_policy_interface.proofs.Conjunction.{and_both}
+use Rattle.std.proofs.lemmas.Bool.{and_parts, or_cases, or_right}
 use Rattle.interface_display.specs.Notices.{places, empty, padded}
 use Rattle.interface_display.specs.declared.notices.Notices.{Notices}
 use Rattle.interface_display.specs.declared.packet.EventPacket.{EventPacket}
@@ -23,26 +24,17 @@ use Rattle.desk_follower.specs.declared.Shown.{Shown}
 use Rattle.desk_follower.specs.declared.held.Held.{Held}
 use Rattle.desk_follower.proofs.Kept.{none_at}
 
-either : (a b : Bool) → (a || b) ≡ true → (a ≡ true) ⊎ (b ≡ true)
-either true b e = inl refl
-either false true e = inr refl
-either false false e = absurd (cc)
-
-or_right : (a b : Bool) → b ≡ true → (a || b) ≡ true
-or_right true b e = refl
-or_right false b e = e
-
 zero_notices : (n : Notices) → no_notices n ≡ true → n ≡ empty
 zero_notices n e =
-    let a = and_both (eqb n.count 0) (padded n) e in
+    let a = and_parts (eqb n.count 0) (padded n) e in
     let z : n.count ≡ 0 = eqb-true n.count 0 a.0 in
     one_value n empty a.1 refl (ap (λ (k : ℕ). take k (places n)) z)
 
 none_true : (p : EventPacket) → is_none p ≡ true → p ≡ none
 none_true p e =
-    let a = and_both (eqb p.number 0) (eqb p.answer 0 && (eqb p.orders 0 && no_notices p.notices)) e in
-    let b = and_both (eqb p.answer 0) (eqb p.orders 0 && no_notices p.notices) a.1 in
-    let c = and_both (eqb p.orders 0) (no_notices p.notices) b.1 in
+    let a = and_parts (eqb p.number 0) (eqb p.answer 0 && (eqb p.orders 0 && no_notices p.notices)) e in
+    let b = and_parts (eqb p.answer 0) (eqb p.orders 0 && no_notices p.notices) a.1 in
+    let c = and_parts (eqb p.orders 0) (no_notices p.notices) b.1 in
     let x : p.number ≡ 0 = eqb-true p.number 0 a.0 in
     let y : p.answer ≡ 0 = eqb-true p.answer 0 b.0 in
     let z : p.orders ≡ 0 = eqb-true p.orders 0 c.0 in
@@ -56,12 +48,12 @@ place_true : (lo hi i : ℕ) (p : EventPacket) → in_place lo hi i p ≡ true �
 place_true lo hi i p e =
     ⊎_elim (λ x. inl (none_true p x))
     (λ x.
-    let a = and_both (leb lo p.number) _ x in
-    let b = and_both (leb p.number hi) _ a.1 in
-    let c = and_both (leb p.number largest) _ b.1 in
-    let d = and_both (eqb (p.number % 8) i) (padded p.notices) c.1 in
+    let a = and_parts (leb lo p.number) _ x in
+    let b = and_parts (leb p.number hi) _ a.1 in
+    let c = and_parts (leb p.number largest) _ b.1 in
+    let d = and_parts (eqb (p.number % 8) i) (padded p.notices) c.1 in
     inr (leb-true _ _ a.0, leb-true _ _ b.0, leb-true _ _ c.0, eqb-true _ _ d.0, d.1))
-    (either (is_none p) _ e)
+    (or_cases (is_none p) _ e)
 
 true_place : (lo hi i : ℕ) (p : EventPacket) → InPlace lo hi i p → in_place lo hi i p ≡ true
 true_place lo hi i p (inl e) = rw (true_none p e)
@@ -77,14 +69,14 @@ all_tested t k h i false b l r e =
     let q : i ≡ k = omega (arith, ltb-false i k b) in
     ap (λ (j : ℕ). t j (packet_at h j)) q ∙ e
 
-all_true : (t : ℕ → EventPacket → Bool) (k : ℕ) (h : Held) → all_places t k h ≡ true → (i : ℕ) → i < k → t i (packet_at h i) ≡ true
+pub all_true : (t : ℕ → EventPacket → Bool) (k : ℕ) (h : Held) → all_places t k h ≡ true → (i : ℕ) → i < k → t i (packet_at h i) ≡ true
 unfolding all_places
 all_true t zero h e i l = absurd (omega arith)
 all_true t (suc k) h e i l =
-    let a = and_both (all_places t k h) (t k (packet_at h k)) e in
+    let a = and_parts (all_places t k h) (t k (packet_at h k)) e in
     all_tested t k h i (ltb i k) refl l (all_true t k h a.0 i) a.1
 
-true_all : (t : ℕ → EventPacket → Bool) (k : ℕ) (h : Held) → ((i : ℕ) → i < k → t i (packet_at h i) ≡ true) → all_places t k h ≡ true
+pub true_all : (t : ℕ → EventPacket → Bool) (k : ℕ) (h : Held) → ((i : ℕ) → i < k → t i (packet_at h i) ≡ true) → all_places t k h ≡ true
 unfolding all_places
 true_all t zero h f = refl
 true_all t (suc k) h f = rw (true_all t k h (λ i l. f i (omega arith)), f k (omega arith))
@@ -97,14 +89,14 @@ no_packets h e f =
 
 formed_at : (x : Shown) (h : Held) → well_formed_at x h ≡ true → WellFormedAt x h
 formed_at (Shown.Lost floor) h e =
-    let a = and_both (leb floor largest) (eqb (length h.packets) 8 && all_places (λ i p. is_none p) 8 h) e in
-    let b = and_both (eqb (length h.packets) 8) (all_places (λ i p. is_none p) 8 h) a.1 in (
+    let a = and_parts (leb floor largest) (eqb (length h.packets) 8 && all_places (λ i p. is_none p) 8 h) e in
+    let b = and_parts (eqb (length h.packets) 8) (all_places (λ i p. is_none p) 8 h) a.1 in (
       leb-true _ _ a.0,
       no_packets h (eqb-true _ _ b.0) (λ i l. none_true (packet_at h i) (all_true (λ j p. is_none p) 8 h b.1 i l)),
     )
 formed_at (Shown.Picture s) h e =
-    let a = and_both (leb s.number largest) (eqb (length h.packets) 8 && all_places (in_place (s.number + 2) (s.number + 8)) 8 h) e in
-    let b = and_both (eqb (length h.packets) 8) (all_places (in_place (s.number + 2) (s.number + 8)) 8 h) a.1 in (
+    let a = and_parts (leb s.number largest) (eqb (length h.packets) 8 && all_places (in_place (s.number + 2) (s.number + 8)) 8 h) e in
+    let b = and_parts (eqb (length h.packets) 8) (all_places (in_place (s.number + 2) (s.number + 8)) 8 h) a.1 in (
       leb-true _ _ a.0,
       (
         eqb-true _ _ b.0,

@@ -11,7 +11,7 @@ use lib.ListN.{get_or, length, set}
 use mathlib.Core.List.{List}
 use borrow.Author.Tests.{eqb-true, ltb-true, ltb-false, le-leb, lt-leb}
 use Rattle.std.proofs.lemmas.List.{get_or_default}
-use Rattle.power_policy_interface.proofs.Conjunction.{and_both}
+use Rattle.std.proofs.lemmas.Bool.{and_parts}
 use Rattle.interface_display.specs.declared.packet.EventPacket.{EventPacket}
 use Rattle.desk_follower.specs.declared.held.Held.{Held}
 use Rattle.desk_follower.specs.Held.{none, packet_at, kept_above, none_held, greatest, above}
@@ -21,11 +21,11 @@ unfolding none_held
 none_each zero h f = refl
 none_each (suc k) h f = rw (none_each k h (λ i l. f i (omega arith)), f k (omega arith))
 
-each_none : (k : ℕ) (h : Held) → none_held k h ≡ true → (i : ℕ) → i < k → (packet_at h i).number ≡ 0
+pub each_none : (k : ℕ) (h : Held) → none_held k h ≡ true → (i : ℕ) → i < k → (packet_at h i).number ≡ 0
 unfolding none_held
 each_none zero h e i l = absurd (omega arith)
 each_none (suc k) h e i l =
-    let a = and_both (none_held k h) (eqb (packet_at h k).number 0) e in
+    let a = and_parts (none_held k h) (eqb (packet_at h k).number 0) e in
     tested (ltb i k) refl (each_none k h a.0 i) (eqb-true _ _ a.1)
   where
     tested : (t : Bool) → ltb i k ≡ t → (i < k → (packet_at h i).number ≡ 0) → (packet_at h k).number ≡ 0 → (packet_at h i).number ≡ 0

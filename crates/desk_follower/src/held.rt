@@ -10,7 +10,8 @@ use power_policy_interface::limits::WINDOW;
 // One for each event of the window.
 const PLACES: usize = WINDOW as usize;
 
-// Eight places; number 0 says that none is held there (events are numbered from 1).
+// Eight places; number 0 says that none is held there (events are numbered from 1). So `packet.number == n` says at once that a packet is
+// held and that it is event n's, and none is no greater than any; an Option would be asked for before its number in each.
 #[derive(Clone, Copy, PartialEq, Eq)]
 pub struct Held {
     pub packets: [EventPacket; PLACES],

@@ -1,42 +1,114 @@
 -- A text at the right of its columns, written from its last byte on: bytes, digits, a port before others with a comma, no port at all; and the line that it
 -- stands in.
 -- Assumes nothing.
-use mathlib.Core.Path.{◌≡◌, refl, ap, sym, ◌∙◌, subst}
-use mathlib.Core.List.{List, [], ◌∷◌, ◌++◌, append-nil, append_assoc}
+use mathlib.Core.Path.{◌≡◌, refl, ap, sym, ◌∙◌}
+use mathlib.Core.List.{List, [], ◌∷◌, ◌++◌, append-nil}
 use Prim.Native.Nat.{ℕ, zero, suc, ◌+◌, ◌-◌, ◌/◌, ◌%◌, ◌^◌, ◌≤◌, ◌<◌}
 use native.Mathlib.Omega.{arith}
-use lib.ListN.{length, drop, set, replicate, length-replicate, length-drop, drop_of_length-le, length-append, get_or}
-use lib.Seq.{append_snoc, take_all, take_at, drop-drop, drop-cons, set_at}
-use borrow.Author.Tests.{le-ltb}
-use borrow.Rule.Slice.PartMut.{mid_of, put_mid}
+use lib.ListN.{length, drop, set, replicate, length-replicate, length-drop, drop_of_length-le}
+use lib.Seq.{append_snoc, drop-append-add, take_at}
+use lib.Dec.{leb}
+use mathlib.Core.Bool.{Bool, true, false}
+use borrow.Author.Tests.{lt-ltb, le-ltb, leb-true, leb-false}
+use borrow.Rule.Slice.PartMut.{put_mid}
 use Rattle.std.proofs.lemmas.List.{drop_at, take-replicate}
 use lib.Pow.{shr-shr}
 use native.Mathlib.Nat.{div-one}
 use native.Mathlib.Numerals.{add-one}
 use Rattle.wire.specs.Bytes.{ports_from, ports_bytes}
 use Rattle.wire.proofs.Stores.{port_set, port_clear}
-use Rattle.abstract_page.specs.Text.{blank, comma, hyphen, digits, decimal, right}
+use Rattle.abstract_page.specs.Text.{blank, newline, comma, hyphen, digits, decimal, right}
 use Rattle.abstract_page.specs.Page.{commas, text, ports}
+use Rattle.abstract_page.proofs.Decimal.{length_to}
 use Rattle.abstract_page.proofs.Read.{commas_some}
-use Rattle.abstract_page.proofs.Columns.{right_short, right_long, right_more}
-use Rattle.desk_report.specs.Page.{Holds}
+use Rattle.abstract_page.proofs.Columns.{right_short, right_more}
+use Rattle.desk_report.specs.Page.{end_of}
 
-pub push_full : (t : List ℕ) (from b : ℕ) (s : List ℕ) → from ≤ 0 → Holds t from s → Holds t from (b ∷ s)
-push_full t from b s e h =
-    let k : 20 ≤ length s = omega (arith, h.place) in
-    record { text = h.text ∙ sym (right_long 20 b s k); place = omega (arith, h.place) }
+-- the end of a text: all of a short one; one of the end alone is the same
 
-pub push_one : (t : List ℕ) (from b : ℕ) (s : List ℕ) → 0 < from → Holds t from s → Holds (set t (from - 1) b) (from - 1) (b ∷ s)
-push_one t from b s n h =
-    let k : suc (from - 1) + length s ≡ 20 = omega (arith, h.place) in
-    record { text = ap (λ (x : List ℕ). set x (from - 1) b) h.text ∙ right_more (from - 1) 20 b s k; place = omega (arith, h.place) }
+pub end_short : (s : List ℕ) → length s ≤ 20 → end_of s ≡ s
+end_short s h =
+    let z : length s - 20 ≡ 0 = omega arith in
+    rw z refl
 
--- what stands there
-pub held : (t : List ℕ) (from : ℕ) (s : List ℕ) → length s ≤ 20 → Holds t from s → mid_of from (20 - from) t ≡ s
-held t from s l h =
-    let k : from + length s ≡ 20 = omega (arith, h.place) in
-    let n : length s ≤ 20 - from = omega arith in
-    rw (h.text, right_short from 20 s k, drop_at (replicate from blank) s from (length-replicate from blank), take_all (20 - from) s n)
+pub end_length : (s : List ℕ) → length (end_of s) ≤ 20
+end_length s = omega (arith, length-drop (length s - 20) s)
+
+pub end_full : (b : ℕ) (s : List ℕ) → length s ≡ 20 → end_of (b ∷ s) ≡ s
+end_full b s h =
+    let z : suc (length s) - 20 ≡ 1 = omega arith in
+    rw z refl
+
+end_long : (b : ℕ) (s : List ℕ) → 20 ≤ length s → end_of (b ∷ s) ≡ end_of s
+end_long b s h =
+    let z : suc (length s) - 20 ≡ suc (length s - 20) = omega arith in
+    rw z refl
+
+pub end_cons : (b : ℕ) (s : List ℕ) → end_of (b ∷ end_of s) ≡ end_of (b ∷ s)
+end_cons b s = tested (leb (length s) 20) refl
+  where
+    tested : (t : Bool) → leb (length s) 20 ≡ t → end_of (b ∷ end_of s) ≡ end_of (b ∷ s)
+    tested true h = ap (λ (x : List ℕ). end_of (b ∷ x)) (end_short s (leb-true (length s) 20 h))
+    tested false h =
+        let g = leb-false (length s) 20 h in
+        let k : length (end_of s) ≡ 20 = omega (arith, length-drop (length s - 20) s) in
+        let l : 20 ≤ length s = omega arith in
+        end_full b (end_of s) k ∙ sym (end_long b s l)
+
+pub end_append : (x s : List ℕ) → end_of (x ++ end_of s) ≡ end_of (x ++ s)
+end_append [] s = end_short (end_of s) (end_length s)
+end_append (b ∷ x) s = sym (end_cons b (x ++ end_of s)) ∙ (ap (λ (y : List ℕ). end_of (b ∷ y)) (end_append x s) ∙ end_cons b (x ++ s))
+
+pub end_end : (s : List ℕ) → end_of (end_of s) ≡ end_of s
+end_end s = end_short (end_of s) (end_length s)
+
+-- a byte before a text of which the end stands there
+pub end_before : (b : ℕ) (t u s : List ℕ) → u ≡ end_of (b ∷ t) → end_of t ≡ end_of s → u ≡ end_of (b ∷ s)
+end_before b t u s g h = g ∙ (sym (end_cons b t) ∙ (ap (λ (x : List ℕ). end_of (b ∷ x)) h ∙ end_cons b s))
+
+-- the digits of a number alone
+pub end_digits : (n : ℕ) (t u : List ℕ) → t ≡ [] → u ≡ end_of (decimal n ++ t) → u ≡ decimal n
+end_digits n t u g h =
+    h ∙ (ap (λ (x : List ℕ). end_of (decimal n ++ x)) g ∙ (ap end_of (append-nil (decimal n)) ∙ end_short (decimal n) (length_to n)))
+
+right_long : (s : List ℕ) → length s ≡ length (replicate 20 blank) + (length s - 20) → right 20 s ≡ end_of s
+unfolding right
+right_long s l = ap (λ (n : ℕ). drop n (replicate 20 blank ++ s)) l ∙ drop-append-add (replicate 20 blank) s (length s - 20)
+
+pub right_end : (s : List ℕ) → right 20 (end_of s) ≡ right 20 s
+right_end s = tested (leb (length s) 20) refl
+  where
+    tested : (t : Bool) → leb (length s) 20 ≡ t → right 20 (end_of s) ≡ right 20 s
+    tested true h = ap (right 20) (end_short s (leb-true (length s) 20 h))
+    tested false h =
+        let g = leb-false (length s) 20 h in
+        let k : 0 + length (end_of s) ≡ 20 = omega (arith, length-drop (length s - 20) s) in
+        let l : length s ≡ length (replicate 20 blank) + (length s - 20) = omega (arith, length-replicate {A = ℕ} 20 blank) in
+        right_short 0 20 (end_of s) k ∙ sym (right_long s l)
+
+-- the text behind the blanks
+pub shown : (t s : List ℕ) (from : ℕ) → t ≡ right 20 s → from + length s ≡ 20 → drop from t ≡ s
+shown t s from h k = rw (h, right_short from 20 s k, drop_at (replicate from blank) s from (length-replicate from blank))
+
+-- a byte before the text: the columns and the place of it then, and the text
+module _ (t : List ℕ) (from b : ℕ) (n : 0 < from) (m : from ≤ 20) (l : length t ≡ 20) (h : t ≡ right 20 (drop from t)) where
+  pushed : set t (from - 1) b ≡ right 20 (b ∷ drop from t)
+  pushed =
+      let z : suc (from - 1) + length (drop from t) ≡ 20 = omega (arith, length-drop from t) in
+      ap (λ (x : List ℕ). set x (from - 1) b) h ∙ right_more (from - 1) 20 b (drop from t) z
+
+  pub pushed_text : drop (from - 1) (set t (from - 1) b) ≡ b ∷ drop from t
+  pushed_text =
+      let z : (from - 1) + length (b ∷ drop from t) ≡ 20 = omega (arith, length-drop from t) in
+      shown (set t (from - 1) b) (b ∷ drop from t) (from - 1) pushed z
+
+  pub pushed_whole : set t (from - 1) b ≡ right 20 (drop (from - 1) (set t (from - 1) b))
+  pushed_whole = pushed ∙ ap (right 20) (sym pushed_text)
+
+  pub pushed_end : drop (from - 1) (set t (from - 1) b) ≡ end_of (b ∷ drop from t)
+  pushed_end =
+      let z : length (b ∷ drop from t) ≤ 20 = omega (arith, length-drop from t) in
+      pushed_text ∙ sym (end_short (b ∷ drop from t) z)
 
 -- a digit stands before the text d, and those of the tenth are left
 pub digit_more : (k m n : ℕ) (d : List ℕ) → k ≡ suc m → (n / 10 ≡ 0 → ⊥) → digits k n ++ d ≡ digits m (n / 10) ++ ((48 + n % 10) ∷ d)
@@ -44,26 +116,44 @@ digit_more k m n d e h =
     let g : 10 ≤ n = omega arith in
     rw (e, le-ltb n 10 g, append_snoc (digits m (n / 10)) (48 + n % 10) d)
 
+-- or no digit is left
+pub digit_last : (k m n : ℕ) (d : List ℕ) → k ≡ suc m → n / 10 ≡ 0 → digits k n ++ d ≡ (48 + n % 10) ∷ d
+digit_last k m n d e h =
+    let g : n < 10 = omega arith in
+    rw (e, lt-ltb n 10 g) refl
+
 -- a text that has room
-pub stood : (v : List ℕ) → length v ≤ 20 → Holds (put_mid (20 - length v) (20 - (20 - length v)) (replicate 20 blank) v) (20 - length v) v
+pub stood : (v : List ℕ) → length v ≤ 20 → put_mid (20 - length v) (20 - (20 - length v)) (replicate 20 blank) v ≡ right 20 v
 stood v l =
     let n = length v in
     let k : (20 - n) + n ≡ 20 = omega arith in
     let a : 20 - n ≤ 20 = omega arith in
     let z : drop (20 - (20 - n)) (drop (20 - n) (replicate 20 blank)) ≡ [] = drop_of_length-le (drop (20 - n) (replicate 20 blank)) (omega (arith, length-drop (20 - n) (replicate 20 blank), length-replicate {A = ℕ} 20 blank)) in
-    record { text = rw (take-replicate (20 - n) 20 blank a, z, append-nil v, right_short (20 - n) 20 v k); place = refl }
+    rw (take-replicate (20 - n) 20 blank a, z, append-nil v, right_short (20 - n) 20 v k)
+
+pub stood_whole : (v : List ℕ) → length v ≤ 20
+    → put_mid (20 - length v) (20 - (20 - length v)) (replicate 20 blank) v
+    ≡ right 20 (drop (20 - length v) (put_mid (20 - length v) (20 - (20 - length v)) (replicate 20 blank) v))
+stood_whole v l =
+    let k : (20 - length v) + length v ≡ 20 = omega arith in
+    stood v l ∙ ap (right 20) (sym (shown _ v (20 - length v) (stood v l) k))
 
 -- before other ports
 
-pub first_port : (t u : List ℕ) (from r p : ℕ) (l : List ℕ) → from ≡ 20 → ((s : List ℕ) → Holds t from s → Holds u r (decimal p ++ s)) → Holds t from (commas l)
-    → Holds u r (commas (p ∷ l))
-first_port t u from r p [] e g h = subst (λ (s : List ℕ). Holds u r s) (append-nil (decimal p)) (g [] h)
-first_port t u from r p (m ∷ l) e g h = absurd (omega (arith, h.place, commas_some m l))
+pub end_some : (p : ℕ) (l : List ℕ) → length (end_of (commas (p ∷ l))) ≡ 0 → ⊥
+end_some p l = omega (arith, commas_some p l, length-drop (length (commas (p ∷ l)) - 20) (commas (p ∷ l)))
 
-pub more_ports : (t u : List ℕ) (from r p : ℕ) (l : List ℕ) → (from ≡ 20 → ⊥) → ((s : List ℕ) → Holds t from s → Holds u r (decimal p ++ (comma ∷ s))) → Holds t from (commas l)
-    → Holds u r (commas (p ∷ l))
-more_ports t u from r p [] n g h = absurd (n h.place)
-more_ports t u from r p (m ∷ l) n g h = g (commas (m ∷ l)) h
+pub first_port : (t u : List ℕ) (p : ℕ) (l : List ℕ) → length t ≡ 0 → u ≡ end_of (decimal p ++ t) → t ≡ end_of (commas l)
+    → u ≡ end_of (commas (p ∷ l))
+first_port t u p [] e g h = g ∙ ap end_of (ap (λ (x : List ℕ). decimal p ++ x) h ∙ append-nil (decimal p))
+first_port t u p (m ∷ l) e g h = absurd (end_some m l (sym (ap length h) ∙ e))
+
+pub more_ports : (t u v : List ℕ) (p : ℕ) (l : List ℕ) → (length t ≡ 0 → ⊥) → v ≡ end_of (comma ∷ t) → u ≡ end_of (decimal p ++ v) → t ≡ end_of (commas l)
+    → u ≡ end_of (commas (p ∷ l))
+more_ports t u v p [] n f g h = absurd (n (ap length h))
+more_ports t u v p (m ∷ l) n f g h =
+    g ∙ (ap (λ (x : List ℕ). end_of (decimal p ++ x)) (f ∙ (ap (λ (x : List ℕ). end_of (comma ∷ x)) h ∙ end_cons comma (commas (m ∷ l))))
+    ∙ end_append (decimal p) (comma ∷ commas (m ∷ l)))
 
 -- the ports from i on, in a set
 
@@ -93,20 +183,15 @@ all_ports mask = ap (λ (m : ℕ). ports_from 16 0 m) (div-one mask)
 
 -- none, or some
 
-pub none_there : (t : List ℕ) (from : ℕ) (l : List ℕ) → Holds t from (commas l) → from ≡ 20 → right 20 (hyphen ∷ []) ≡ right 20 (text (ports l))
-none_there t from [] h e = refl
-none_there t from (p ∷ l) h e = absurd (omega (arith, h.place, commas_some p l))
+pub none_there : (t l : List ℕ) → t ≡ end_of (commas l) → length t ≡ 0 → hyphen ∷ [] ≡ end_of (text (ports l))
+none_there t [] h e = refl
+none_there t (p ∷ l) h e = absurd (end_some p l (sym (ap length h) ∙ e))
 
-pub some_there : (t : List ℕ) (from : ℕ) (l : List ℕ) → Holds t from (commas l) → (from ≡ 20 → ⊥) → t ≡ right 20 (text (ports l))
-some_there t from [] h n = absurd (n h.place)
-some_there t from (p ∷ l) h n = h.text
+pub some_there : (t l : List ℕ) → t ≡ end_of (commas l) → (length t ≡ 0 → ⊥) → t ≡ end_of (text (ports l))
+some_there t [] h n = absurd (n (ap length h))
+some_there t (p ∷ l) h n = h
 
--- name, figure and a byte, stored one after the other
-pub line_stored : (name figure o : List ℕ) (b : ℕ) → length name ≡ 20 → length figure ≡ 20 → length o ≡ 41
-    → set (put_mid 20 20 (name ++ drop 20 o) figure) 40 b ≡ name ++ (figure ++ (b ∷ []))
-line_stored name figure o b n f e =
-    let h : 40 < length o = omega arith in
-    let l : length (name ++ figure) ≡ 40 = omega (arith, length-append name figure) in
-    let k : length o ≤ 41 = omega arith in
-    let z : drop 41 o ≡ [] = drop_of_length-le o k in
-    rw (take_at name (drop 20 o) 20 n, drop_at name (drop 20 o) 20 n, drop-drop 20 20 o, drop-cons o 40 0 h, z, ← append_assoc name figure (get_or o 40 0 ∷ []), set_at (name ++ figure) (get_or o 40 0) [] b 40 l, append_assoc name figure (b ∷ []))
+-- name and figure, stored one after the other at the front of a line of newlines
+pub line_stored : (name figure : List ℕ) → length name ≡ 20 → length figure ≡ 20
+    → put_mid 20 20 (name ++ drop 20 (replicate 41 newline)) figure ≡ name ++ (figure ++ (newline ∷ []))
+line_stored name figure n f = rw (take_at name (drop 20 (replicate 41 newline)) 20 n, drop_at name (drop 20 (replicate 41 newline)) 20 n) refl

@@ -1,14 +1,13 @@
 -- A line takes at most 92 bytes, and a packet with its length at least one of the input's.
 -- Assumes nothing.
 use Rattle.std.specs.Prelude.{Err, None, Ok, Option, Result, Some}
-use mathlib.Core.Path.{◌≡◌, refl, ap, sym, ◌∙◌}
+use mathlib.Core.Path.{◌≡◌, refl}
 use mathlib.Core.Bool.{Bool, true, false, cond}
 use mathlib.Core.List.{List, [], ◌∷◌, ◌++◌}
 use Prim.Native.Nat.{ℕ, ◌+◌, ◌≤◌}
 use native.Mathlib.Omega.{arith}
 use lib.Dec.{eqb}
 use lib.ListN.{length, take, drop, length-append}
-use lib.Seq.{sets, length-sets, length-take-le}
 use Rattle.interface_display.specs.declared.State.{State}
 use Rattle.wire.specs.Read.{read_packet}
 use Rattle.interface_display.specs.declared.packet.Packet.{Packet}
@@ -77,9 +76,9 @@ end_length d s = tested (eqb (length s) 0)
 -- what a step uses
 
 next_told : (s : List ℕ) (r : Result Framed ℕ) (m : ℕ) → framed s ≡ r → next_at r ≡ Next.Used m → (1 ≤ m) × (m ≤ length s)
-next_told s (Ok Framed.Empty) m p e = absurd (let z : ◌≡◌ {A = ℕ} 0 1 = cc in omega arith)
-next_told s (Ok Framed.Cut) m p e = absurd (let z : ◌≡◌ {A = ℕ} 0 1 = cc in omega arith)
-next_told s (Err n) m p e = absurd (let z : ◌≡◌ {A = ℕ} 0 1 = cc in omega arith)
+next_told s (Ok Framed.Empty) m p e = absurd (cc)
+next_told s (Ok Framed.Cut) m p e = absurd (cc)
+next_told s (Err n) m p e = absurd (cc)
 next_told s (Ok (Framed.Frame u n)) m p e =
     let t = frame_told s u n p in
     let f : u + n ≡ m = cc in
@@ -87,10 +86,3 @@ next_told s (Ok (Framed.Frame u n)) m p e =
 
 pub used_bounds : (s : List ℕ) (m : ℕ) → stepped_next s ≡ Next.Used m → (1 ≤ m) × (m ≤ length s)
 used_bounds s m e = next_told s (framed s) m refl e
-
--- a line at the front of a buffer of 128 bytes, as many as are written
-pub in_buffer_lem : (o l m : List ℕ) (r : ℕ) → length o ≡ 128 → r ≡ length m → l ≡ sets o 0 m → length m ≤ 92 → (r ≤ length l) × (r ≡ length (take r l))
-in_buffer_lem o l m r h p q b =
-    let k : length l ≡ 128 = ap length q ∙ (length-sets o 0 m ∙ h) in
-    let w : r ≤ length l = omega arith in
-    (w, sym (length-take-le r l w))

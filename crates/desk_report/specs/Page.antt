@@ -1,11 +1,10 @@
 -- A page as the code has it; what it says is said in abstract_page's words.
-use Rattle.std.specs.Prelude.{ℕ, ◌-◌, List, ◌≡◌, length, None, Option, Some}
+use Rattle.std.specs.Prelude.{ℕ, ◌-◌, List, length, drop, None, Option, Some}
 use Rattle.interface_display.specs.Providers.{none}
 use Rattle.interface_display.specs.declared.AvailableConsumer.{AvailableConsumer}
 use Rattle.interface_display.specs.declared.packet.Picture.{Picture}
 use Rattle.interface_display.specs.declared.State.{State}
 use Rattle.wire.specs.Bytes.{ports_bytes}
-use Rattle.abstract_page.specs.Text.{right}
 use Rattle.abstract_page.specs.Page.{Figure, absent, state, Entry, lines, entries, one, millivolts, milliamps, ports}
 use Rattle.desk_follower.specs.Follower.{state_of}
 use Rattle.desk_follower.specs.declared.Follower.{Follower}
@@ -67,7 +66,6 @@ page_at s (Shown.Picture p) = showing_page s p
 abbrev pub page_for : Follower → Page
 page_for f = page_at (state_of f) f.shown
 
--- a text stands at the right of the columns t, from a place on; of one that is longer its end
-pub record Holds (t : List ℕ) (from : ℕ) (s : List ℕ) : Type 0 where
-  pub text : t ≡ right 20 s
-  pub place : from ≡ 20 - length s
+-- the last twenty bytes of a text, or all of it: what stands at the right of its columns
+abbrev pub end_of : List ℕ → List ℕ
+end_of s = drop (length s - 20) s

@@ -6,7 +6,7 @@ ghost use Rattle.desk_report.specs.Buffer.{added, given, Reads};
 use std::io::Read;
 use std::marker::Model;
 
-// At most N bytes, one after the other.
+// At most N bytes, one after the other. An array of its own: arrayvec's vector has no spare room to hand out, into which `fill` reads.
 #[derive(Drop)]
 pub struct Bytes<const N: usize> {
     memory: [u8; N],

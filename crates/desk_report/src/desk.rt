@@ -14,11 +14,11 @@ pub struct Desk {
     // How many packets there were, refused ones too.
     pub packets: u64,
     pub follower: Follower,
-    // Whether a packet that is taken has a line; one that is refused always has.
+    // Whether a packet that is taken has a line; one that is refused always has. Asked in `write_taken` alone.
     pub lines: bool,
 }
 
-// What to do after a step.
+// What to do after a step; no closure, since each case ends the caller's loop or goes on with it.
 #[derive(Clone, Copy)]
 pub enum Next {
     // Go on after so many bytes.
@@ -56,13 +56,14 @@ impl Desk {
     }
 
     // One packet; its line, if it has one.
+    #[tactic(auto, unfolding(crate::specs::Desk::taken_by, crate::specs::Desk::line_for))]
     pub fn take(&mut self, bytes: &[u8]) -> Bytes<128>
         ensures desk { self.new ≡ taken_by self.old bytes.now }
         ensures line { result ≡ line_for self.old bytes.now }
     {
         self.packets = count(self.packets);
         match packet::read(bytes) {
-            Err(refusal) => write_refused(self.packets, refusal),
+            Err(refusal) => write_refused(self.packets, u8::from(refusal)),
             Ok(p) => {
                 self.follower.take(p);
                 write_taken(self.lines, self.packets, Line::of(self.follower))
@@ -85,7 +86,7 @@ impl Desk {
             }
             Err(refusal) => {
                 self.packets = count(self.packets);
-                (Next::Stop, write_refused(self.packets, refusal))
+                (Next::Stop, write_refused(self.packets, u8::from(refusal)))
             }
         }
     }
@@ -97,6 +98,6 @@ impl Desk {
         if rest.is_empty() {
             return Bytes::new();
         }
-        write_refused(count(self.packets), Refusal::CutShort)
+        write_refused(count(self.packets), u8::from(Refusal::CutShort))
     }
 }

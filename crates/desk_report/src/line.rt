@@ -1,7 +1,7 @@
-// The lines of `follow`. A line takes at most 92 bytes.
+// The lines of `follow`, written by bytes as text.rt says. A line takes at most 92 bytes: each part asks for its own room and says how much
+// it may have taken, so that the next one has its room; no invariant of the line says both, since the room differs from part to part.
 ghost use Rattle.std.specs.Prelude.{◌≡◌, ◌++◌, ◌+◌, ◌≤◌, ◌∷◌, length};
 ghost use Rattle.abstract_page.specs.Text.{decimal, word};
-ghost use Rattle.power_policy_interface.specs.Refusal.{refusal_number};
 ghost use Rattle.desk_report.specs.Text.{header, number};
 ghost use Rattle.desk_report.specs.Line.{line_of, line_bytes, refused_bytes, spaced};
 
@@ -9,7 +9,6 @@ use crate::buffer::Bytes;
 use crate::text::{decimal, word};
 use desk_follower::Follower;
 use interface_display::State;
-use power_policy_interface::refusal::Refusal;
 
 // What a line says of a follower.
 #[derive(Clone, Copy)]
@@ -54,6 +53,7 @@ fn push_word(out: &mut Bytes<128>, state: State)
 }
 
 impl Line {
+    #[tactic(auto, unfolding(crate::specs::Line::line_of))]
     pub fn of(f: Follower) -> Line
         ensures { result ≡ line_of f }
     {
@@ -66,6 +66,7 @@ impl Line {
     }
 
     // Ordinal, n, state, port, mW.
+    #[tactic(auto, unfolding(crate::specs::Line::line_bytes))]
     pub fn write(self, k: u64) -> Bytes<128>
         ensures { result ≡ line_bytes k self }
     {
@@ -81,13 +82,14 @@ impl Line {
 }
 
 // `K refused N`.
-pub fn write_refused(k: u64, refusal: Refusal) -> Bytes<128>
-    ensures { result ≡ refused_bytes k (refusal_number refusal) }
+#[tactic(auto, unfolding(crate::specs::Line::refused_bytes))]
+pub fn write_refused(k: u64, n: u8) -> Bytes<128>
+    ensures { result ≡ refused_bytes k n }
 {
     let mut out = Bytes::new();
     push_decimal(&mut out, k);
     out.push(b" refused ");
-    push_decimal(&mut out, u8::from(refusal) as u64);
+    push_decimal(&mut out, n as u64);
     out.push(b"\n");
     out
 }

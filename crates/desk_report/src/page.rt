@@ -1,4 +1,4 @@
-// The page of a follower (S1): six lines of 40 columns and a newline, a name and a figure each.
+// The page of a follower (S1): six lines of 40 columns and a newline, a name and a figure each, written by bytes as text.rt says.
 ghost use Rattle.std.specs.Prelude.{◌≡◌, List, [], ◌∷◌, ◌++◌, ℕ, ◌+◌, ◌≤◌, length, Option};
 ghost use Rattle.std.proofs.lemmas.List.Edits.{sets};
 ghost use Rattle.power_policy_interface.specs.Limits.{page_length};
@@ -7,7 +7,7 @@ ghost use Rattle.wire.specs.Bytes.{ports_bytes};
 ghost use Rattle.wire_writer.specs.Stored.{stored_from, written_from};
 ghost use Rattle.abstract_page.specs.Text.{newline, word, right};
 ghost use Rattle.abstract_page.specs.Page.{commas, text, ports};
-ghost use Rattle.desk_report.specs.Page.{figure_of, page_bytes, lost_page, showing_page, page_for, Holds};
+ghost use Rattle.desk_report.specs.Page.{figure_of, page_bytes, lost_page, showing_page, page_for, end_of};
 
 use crate::text;
 use crate::text::Columns;
@@ -73,11 +73,9 @@ impl Page {
     }
 }
 
-// A figure right in 20 columns.
-
 // A number, or a hyphen for what is not there.
 fn number_columns(n: Option<u32>) -> Columns
-    ensures { result.bytes ≡ right 20 (text (figure_of n)) }
+    ensures { result ≡ text (figure_of n) }
 {
     let Some(v) = n else {
         return Columns::of(b"-");
@@ -89,14 +87,14 @@ fn number_columns(n: Option<u32>) -> Columns
 
 // The word of a state.
 fn state_columns(state: State) -> Columns
-    ensures { result.bytes ≡ right 20 (word state) }
+    ensures { result ≡ word state }
 {
     Columns::of(text::word(state))
 }
 
 // A port before those that stand there, with a comma between.
 fn push_port(columns: &mut Columns, port: u8)
-    ensures { (l : List ℕ) → Holds columns.old.bytes columns.old.from (commas l) → Holds columns.new.bytes columns.new.from (commas (port ∷ l)) }
+    ensures { (l : List ℕ) → columns.old ≡ end_of (commas l) → columns.new ≡ end_of (commas (port ∷ l)) }
 {
     if columns.is_empty() {
         columns.push_decimal(port as u64);
@@ -108,9 +106,10 @@ fn push_port(columns: &mut Columns, port: u8)
 
 // The tracked ports, rising; the last is stored first.
 fn ports_columns(tracked: Providers) -> Columns
-    ensures { result.bytes ≡ right 20 (text (ports (ports_bytes tracked.mask))) }
+    ensures { result ≡ end_of (text (ports (ports_bytes tracked.mask))) }
 {
     let mut columns = Columns::new();
+    // By the ports' numbers, downwards, and upwards in wire_writer: an iterator of the set would have such a loop for each direction.
     for port in (0..MAX_PORTS).rev() {
         if tracked.contains(port) {
             push_port(&mut columns, port);
@@ -122,16 +121,6 @@ fn ports_columns(tracked: Providers) -> Columns
     columns
 }
 
-// A line.
-fn write_line(line: &mut [u8], name: &[u8; 20], figure: Columns)
-    requires { length line.old ≡ 41 }
-    ensures { line.new ≡ name.now ++ (figure.bytes ++ (newline ∷ [])) }
-{
-    line[..20].copy_from_slice(name);
-    line[20..40].copy_from_slice(&figure.bytes);
-    line[40] = b'\n';
-}
-
 // Writes a page at the front of a buffer; the bytes past it stay.
 pub fn write(page: Page, buffer: &mut [u8]) -> Result<usize, Refusal>
     ensures value { numbered result ≡ written_from page_length 34 (page_bytes page) buffer.old }
@@ -140,35 +129,14 @@ pub fn write(page: Page, buffer: &mut [u8]) -> Result<usize, Refusal>
     if buffer.len() < PAGE {
         return Err(Refusal::Page);
     }
-    write_line(
-        &mut buffer[..41],
-        b"number              ",
-        number_columns(page.number),
-    );
-    write_line(
-        &mut buffer[41..82],
-        b"state               ",
-        state_columns(page.state),
-    );
-    write_line(
-        &mut buffer[82..123],
-        b"port                ",
-        number_columns(page.port),
-    );
-    write_line(
-        &mut buffer[123..164],
-        b"millivolts          ",
-        number_columns(page.mv),
-    );
-    write_line(
-        &mut buffer[164..205],
-        b"milliamps           ",
-        number_columns(page.ma),
-    );
-    write_line(
-        &mut buffer[205..PAGE],
-        b"tracked ports       ",
-        ports_columns(page.tracked),
-    );
+    let lines = [
+        number_columns(page.number).line(b"number              "),
+        state_columns(page.state).line(b"state               "),
+        number_columns(page.port).line(b"port                "),
+        number_columns(page.mv).line(b"millivolts          "),
+        number_columns(page.ma).line(b"milliamps           "),
+        ports_columns(page.tracked).line(b"tracked ports       "),
+    ];
+    buffer[..PAGE].copy_from_slice(lines.as_flattened());
     Ok(PAGE)
 }

@@ -1,23 +1,36 @@
-// Decimal digits and fixed words, as ASCII bytes.
+// Decimal digits and fixed words, as ASCII bytes. Not by `impl Display` and `write!`: their contracts say what is written where they end
+// well, and not that they do, and here no line and no page can fail.
 ghost use Rattle.std.specs.Prelude.{◌≡◌, ◌++◌, ◌+◌, ◌≤◌, ℕ, List, [], ◌∷◌, eqb, length};
-ghost use Rattle.abstract_page.specs.Text.{decimal, word};
-ghost use Rattle.desk_report.specs.Page.{Holds};
+ghost use Rattle.abstract_page.specs.Text.{newline, decimal, word, right};
+ghost use Rattle.desk_report.specs.Page.{end_of};
 
 use crate::buffer::Bytes;
 use interface_display::State;
+use std::marker::Model;
 
 // Text at the right of 20 columns, written from its last byte on; blanks are before it. Of a text that is longer its end stands there.
-#[derive(Clone, Copy)]
+// Memory is fixed, and no type of the library fills one from its end.
+#[derive(Drop)]
 pub(crate) struct Columns {
-    pub(crate) bytes: [u8; 20],
-    pub(crate) from: usize,
-    ghost within: { from ≤ 20 },
+    bytes: [u8; 20],
+    from: usize,
+}
+
+impl Model for Columns {
+    ghost use Rattle.std.specs.Prelude.{◌≡◌, ◌≤◌, List, ℕ, drop};
+    ghost use Rattle.abstract_page.specs.Text.{right};
+
+    ghost Value = { List ℕ };
+
+    ghost view = { λ c. drop c.from c.bytes };
+
+    ghost invariant = { λ c. (c.from ≤ 20) × (c.bytes ≡ right 20 (drop c.from c.bytes)) };
 }
 
 impl Columns {
     // No text.
     pub(crate) fn new() -> Columns
-        ensures { Holds result.bytes result.from [] }
+        ensures { result ≡ [] }
     {
         Columns {
             bytes: [b' '; 20],
@@ -28,7 +41,7 @@ impl Columns {
     // A text that has room.
     pub(crate) fn of(text: &[u8]) -> Columns
         requires { length text.now ≤ 20 }
-        ensures { Holds result.bytes result.from text.now }
+        ensures { result ≡ text.now }
     {
         let mut bytes = [b' '; 20];
         let from = 20 - text.len();
@@ -37,14 +50,14 @@ impl Columns {
     }
 
     pub(crate) fn is_empty(&self) -> bool
-        ensures { result ≡ eqb self.now.from 20 }
+        ensures { result ≡ eqb (length self.now) 0 }
     {
         self.from == 20
     }
 
     // One byte before the text.
     pub(crate) fn push(&mut self, b: u8)
-        ensures { (s : List ℕ) → Holds self.old.bytes self.old.from s → Holds self.new.bytes self.new.from (b ∷ s) }
+        ensures { self.new ≡ end_of (b ∷ self.old) }
     {
         if 0 < self.from {
             self.from -= 1;
@@ -54,7 +67,7 @@ impl Columns {
 
     // The decimal digits of a number before the text: at most twenty, the last is stored first.
     pub(crate) fn push_decimal(&mut self, n: u64)
-        ensures { (s : List ℕ) → Holds self.old.bytes self.old.from s → Holds self.new.bytes self.new.from (decimal n ++ s) }
+        ensures { self.new ≡ end_of (decimal n ++ self.old) }
     {
         let mut rest = n;
         for _ in 0..20usize {
@@ -66,11 +79,22 @@ impl Columns {
         }
     }
 
-    // The text, where it is not longer than the columns.
+    // The text.
     pub(crate) fn text(&self) -> &[u8]
-        ensures { (s : List ℕ) → length s ≤ 20 → Holds self.now.bytes self.now.from s → result.now ≡ s }
+        ensures value { result.now ≡ self.now }
+        ensures fits { length result.now ≤ 20 }
     {
         &self.bytes[self.from..]
+    }
+
+    // The line of a name and this: each in its 20 columns, and a newline.
+    pub(crate) fn line(&self, name: &[u8; 20]) -> [u8; 41]
+        ensures { result ≡ name.now ++ (right 20 self.now ++ (newline ∷ [])) }
+    {
+        let mut line = [b'\n'; 41];
+        line[..20].copy_from_slice(name);
+        line[20..40].copy_from_slice(&self.bytes);
+        line
     }
 }
 

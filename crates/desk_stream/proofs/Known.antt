@@ -4,21 +4,21 @@
 use mathlib.Core.Path.{◌≡◌, refl, ap, sym, ◌∙◌}
 use mathlib.Core.Bool.{Bool, true, false}
 use mathlib.Core.List.{List, [], ◌∷◌, ◌++◌, flatten, append-nil, append_assoc}
-use mathlib.Core.Logic.{inl, inr, ⊎_elim}
+use mathlib.Core.Logic.{⊎_elim}
 use Prim.Native.Nat.{ℕ, ◌+◌, ◌-◌, ◌≤◌}
 use native.Mathlib.Omega.{arith}
 use lib.ListN.{length, take, drop, length-drop, drop_of_length-le}
-use lib.Seq.{take_all as take_every, take-add, drop-drop}
-use Rattle.std.specs.Prelude.{Option, None, Some, IfSome, Result, Ok, Err}
-use Rattle.std.specs.Io.KnownBytes.{Consumes, Keeps, IsAtEnd}
+use lib.Seq.{take_all as take_every, drop-drop}
+use Rattle.std.specs.Prelude.{Option, None, Some, IfSome}
+use Rattle.std.specs.Io.KnownBytes.{Consumes}
 use Rattle.std.proofs.KnownBytes.{Appends-nil, Appends-trans, Consumes-nil, Consumes-trans}
 use Rattle.desk_report.specs.Desk.{stepped_desk, stepped_bytes, stepped_next, end_bytes, output_of, desk_of}
 use Rattle.desk_report.specs.Reads.{Turn, begin, go_on, stop, after_take, take_all, reads, ended}
 use Rattle.desk_report.specs.declared.desk.Desk.{Desk}
 use Rattle.desk_report.specs.declared.desk.Next.{Next}
 use Rattle.desk_report.proofs.Whole.{take_step, whole}
-use Rattle.desk_stream.specs.Took.{left, Took}
-use Rattle.desk_stream.specs.Known.{Wrote, Owes, Tells, PassesOn, Stops, Finishes, Fails, PassesAt, Passes, EndsOver}
+use Rattle.desk_stream.specs.Took.{left}
+use Rattle.desk_stream.specs.Known.{Wrote, Owes, PassesOn, Stops, Finishes, Fails, PassesAt, EndsOver}
 use Rattle.desk_stream.specs.declared.End.{End}
 use Rattle.desk_stream.specs.declared.sink.Sink.{Sink}
 use Rattle.desk_stream.proofs.Takes.{reads_snoc}
@@ -30,16 +30,6 @@ owes_none k w b c e = ([], e, λ n. Appends-nil w)
 -- the bytes before a line are written out
 pub owes_line : (k : Sink) (w w' : Option (List ℕ)) (b line c : List ℕ) → Wrote k w w' b → c ≡ line → Owes k w w' (b ++ line) c
 owes_line k w w' b line c h e = (b, ap (λ (z : List ℕ). b ++ z) e, h)
-
--- all that stands in the buffer is written out
-pub owes_all : (k : Sink) (w w' w'' : Option (List ℕ)) (all b : List ℕ) → Owes k w w' all b → Wrote k w' w'' b → Owes k w w'' all []
-owes_all k w w' w'' all b o h =
-    (o.0 ++ b, append-nil (o.0 ++ b) ∙ o.1, λ n. Appends-trans w w' w'' o.0 b (o.2 n) (h n))
-
-pub owes_wrote : (k : Sink) (w w' : Option (List ℕ)) (all : List ℕ) → Owes k w w' all [] → Wrote k w w' all
-owes_wrote k w w' all o =
-    let e : o.0 ≡ all = sym (append-nil o.0) ∙ o.1 in
-    λ n. rw e at (o.2 n)
 
 -- a line more: t are the lines that are left before it, r those after it
 owes_join : (k : Sink) (w w' w'' : Option (List ℕ)) (all b line c t r : List ℕ) → Owes k w w' all (b ++ t) → Owes k w' w'' (b ++ line) c
@@ -94,30 +84,6 @@ module _
 pub due_all : (d₀ d : Desk) (k : Sink) (s b : List ℕ) (w w' : Option (List ℕ)) (u : ℕ) → length s ≤ u → Due d₀ k s w w' d u b
     → Owes k w w' (take_all d₀ s).written b
 due_all d₀ d k s b w w' u h i = rw (append-nil b) at (rw (drop_of_length-le s h) at i)
-
--- what stood in the buffer is written
-pub tells_written : (k : Sink) (w w' w'' : Option (List ℕ)) (all b : List ℕ) → Owes k w w' all b → Wrote k w' w'' b → Wrote k w w'' all
-tells_written k w w' w'' all b o h = owes_wrote k w w'' all (owes_all k w w' w'' all b o h)
-
--- a read that failed took nothing
-pub kept_none : (r r' : Option (List ℕ)) → Keeps r r' → Consumes r r' []
-kept_none None r' h = tt
-kept_none (Some x) None h = absurd h
-kept_none (Some x) (Some y) h = sym h
-
--- the input has ended
-
-pub passes_finish : (d : Desk) (k : Sink) (b : List ℕ) (r r' w w' : Option (List ℕ)) → Wrote k w w' (end_bytes d b) → Consumes r r' [] → IsAtEnd r'
-    → PassesAt d k b r r' w w' d End.Read
-passes_finish d k b r r' w w' h c e = inl (c, e, refl, h)
-
--- bytes c were read after b
-pub passes_read : (d e : Desk) (k : Sink) (b c s kept : List ℕ) (r r' w w' : Option (List ℕ)) (go : Result (Unit {0}) End) → s ≡ b ++ c
-    → Took d k s e kept go → Tells d k s w w' go → Consumes r r' c → Passes d k b r r' w w' e kept go
-passes_read d e k b c s kept r r' w w' (Ok tt) p t o h = (c, h, rw p at t.1, rw p at o)
-passes_read d e k b c s kept r r' w w' (Err End.Read) p t o h = inr (c, h, rw p at t, rw p at o)
-passes_read d e k b c s kept r r' w w' (Err End.Unread) p t o h = absurd t
-passes_read d e k b c s kept r r' w w' (Err End.Unwritten) p t o h = tt
 
 -- from the desk d₀ on pieces l were read, and a run over them stands here and has written this
 abbrev pub Over : Desk → Sink → Option (List ℕ) → Option (List ℕ) → Option (List ℕ) → Option (List ℕ) → Desk → List ℕ → Type 0
@@ -202,10 +168,6 @@ module _ (d₀ d : Desk) (k : Sink) (r r' r'' w w' w'' : Option (List ℕ)) (b :
   over_off e End.Read p = ⊎_elim (over_finish e) (over_stop e) p
   over_off e End.Unread p = over_fail e p
   over_off e End.Unwritten p = tt
-
--- at the last turn
-pub over_end : (d₀ d : Desk) (k : Sink) (r r' w w' : Option (List ℕ)) (b : List ℕ) → Over d₀ k r r' w w' d b → EndsOver d₀ k r r' w w' d End.Unread
-over_end d₀ d k r r' w w' b o = (o.0, o.1, ap (λ (x : Turn). x.desk) o.2, o.3)
 
 -- the whole input: where a refused length stopped the run, what is left changes nothing
 

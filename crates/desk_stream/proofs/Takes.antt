@@ -1,13 +1,13 @@
 -- A turn of `take_all` from the place u of the bytes s is a step of `take_all`: the bytes given to the step are those from u on.
 -- Assumes nothing.
-use Rattle.std.specs.Prelude.{Result, Ok, Err}
+use Rattle.std.specs.Prelude.{Ok, Err}
 use mathlib.Core.Path.{◌≡◌, refl, ap, sym, ◌∙◌}
 use mathlib.Core.List.{List, [], ◌∷◌, ◌++◌}
-use mathlib.Core.Logic.{inl, inr, ⊎_elim}
+use mathlib.Core.Logic.{⊎_elim}
 use Prim.Native.Nat.{ℕ, ◌+◌, ◌-◌, ◌≤◌}
 use native.Mathlib.Omega.{arith}
 use lib.ListN.{length, take, drop, length-drop, drop_of_length-le}
-use lib.Seq.{slice, take_all as take_every, take-add, drop-drop, length-slice}
+use lib.Seq.{take_all as take_every, drop-drop}
 use Rattle.desk_report.specs.Desk.{stepped_desk, stepped_next}
 use Rattle.desk_report.specs.Reads.{Turn, begin, go_on, stop, after_take, take_all, read_on, reads}
 use Rattle.desk_report.specs.declared.desk.Desk.{Desk}
@@ -15,7 +15,7 @@ use Rattle.desk_report.specs.declared.desk.Next.{Next}
 use Rattle.desk_report.proofs.Lengths.{used_bounds}
 use Rattle.desk_report.proofs.Whole.{take_step, kept_short}
 use Rattle.desk_stream.specs.Ran.{Seen, ended_by}
-use Rattle.desk_stream.specs.Took.{left, Took, Read, Stands}
+use Rattle.desk_stream.specs.Took.{left, Read, Stands}
 use Rattle.desk_stream.specs.declared.End.{End}
 use Rattle.desk_stream.specs.declared.Ended.{Ended}
 use Rattle.desk_stream.specs.declared.sink.Sink.{Sink}
@@ -55,15 +55,6 @@ pub kept_few : (d e : Desk) (s kept : List ℕ) → left (take_all d s) ≡ go_o
 kept_few d e s kept p =
     let z : (take_all d s).kept ≡ kept = ap (λ (t : Turn). t.kept) p in
     rw z at (kept_short d s)
-
--- bytes c were read after b
-pub read_after : (d e : Desk) (k : Sink) (b c s kept : List ℕ) (r : Result (Unit {0}) End) → s ≡ b ++ c → Took d k s e kept r → Read d k b e kept r
-read_after d e k b c s kept (Ok tt) p t = (t.0, (c, rw p at t.1))
-read_after d e k b c s kept (Err End.Read) p t =
-    let z : (take_all d s).desk ≡ e = ap (λ (x : Turn). x.desk) t in
-    (tt, inr (c, rw p at z))
-read_after d e k b c s kept (Err End.Unread) p t = absurd t
-read_after d e k b c s kept (Err End.Unwritten) p t = (t.0, inl t.1)
 
 pub reads_snoc : (t : Turn) (l : List (List ℕ)) (c : List ℕ) → reads t (l ++ (c ∷ [])) ≡ read_on (reads t l) c
 reads_snoc t [] c = refl

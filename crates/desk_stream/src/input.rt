@@ -6,7 +6,7 @@ ghost use Rattle.desk_stream.specs.Took.{Took, Read};
 ghost use Rattle.desk_stream.specs.Known.{Wrote, Tells, Passes};
 
 use crate::End;
-use crate::sink::Lines;
+use crate::sink::Sink;
 use crate::take::take_all;
 use desk_report::buffer::Bytes;
 use desk_report::desk::Desk;
@@ -15,52 +15,51 @@ use std::io::{Read, Write};
 #[derive(Drop)]
 pub(crate) struct Stream {
     pub(crate) desk: Desk,
-    pub(crate) lines: Lines,
+    pub(crate) lines: Bytes<4096>,
     pub(crate) input: Bytes<4096>,
 }
 
 impl Stream {
     // Takes what the input holds, writes the lines, and keeps the bytes of a packet that is not whole yet. After a failed write the desk is as it was.
-    fn take_front<W: Write>(&mut self, out: &mut W) -> Result<(), End>
-        ensures same { self.new.lines.sink ≡ self.old.lines.sink }
-        ensures took { Took self.old.desk self.old.lines.sink self.old.input self.new.desk self.new.input result }
-        ensures tells { Tells self.old.desk self.old.lines.sink self.old.input (W.contents out.old) (W.contents out.new) result }
+    fn take_front<W: Write>(&mut self, sink: Sink, out: &mut W) -> Result<(), End>
+        ensures took { Took self.old.desk sink self.old.input self.new.desk self.new.input result }
+        ensures tells { Tells self.old.desk sink self.old.input (W.contents out.old) (W.contents out.new) result }
     {
         let mut desk = self.desk;
-        let used = take_all(&mut desk, &mut self.lines, out, self.input.as_slice())?;
-        self.lines.write_out(out)?;
+        let used = take_all(sink, &mut desk, &mut self.lines, out, self.input.as_slice())?;
+        sink.write_out(&mut self.lines, out)?;
         self.desk = desk;
         self.input.forget(used.ok_or(End::Read)?);
         Ok(())
     }
 
     // The input has ended: what is left of it is a packet cut short.
-    fn finish<W: Write>(&self, out: &mut W) -> Result<(), End>
-        ensures goes { Goes self.now.lines.sink result }
-        ensures wrote { OnOk result (Wrote self.now.lines.sink (W.contents out.old) (W.contents out.new) (end_bytes self.now.desk self.now.input)) }
+    fn finish<W: Write>(&self, sink: Sink, out: &mut W) -> Result<(), End>
+        ensures goes { Goes sink result }
+        ensures wrote { OnOk result (Wrote sink (W.contents out.old) (W.contents out.new) (end_bytes self.now.desk self.now.input)) }
     {
         let line = self.desk.end(self.input.as_slice());
-        self.lines.sink.write(out, line.as_slice())
+        sink.write(out, line.as_slice())
     }
 
     // Reads once, and takes what is there; why the run ends, where it does.
     pub(crate) fn read_on<R: Read, W: Write>(
         &mut self,
+        sink: Sink,
         reader: &mut R,
         out: &mut W,
     ) -> Result<(), End>
         requires { length self.old.input < 4096 }
-        ensures same { self.new.lines.sink ≡ self.old.lines.sink }
-        ensures took { Read self.old.desk self.old.lines.sink self.old.input self.new.desk self.new.input result }
-        ensures passes { Passes self.old.desk self.old.lines.sink self.old.input (R.remaining reader.old) (R.remaining reader.new) (W.contents out.old) (W.contents out.new) self.new.desk self.new.input result }
+        ensures took { Read self.old.desk sink self.old.input self.new.desk self.new.input result }
+        ensures passes { Passes self.old.desk sink self.old.input (R.remaining reader.old) (R.remaining reader.new) (W.contents out.old) (W.contents out.new) self.new.desk self.new.input result }
     {
         match self.input.fill(reader) {
             None => Err(End::Unread),
             Some(0) => {
-                self.finish(out)?;
+                self.finish(sink, out)?;
                 Err(End::Read)
             }
-            Some(_) => self.take_front(out),
+            Some(_) => self.take_front(sink, out),
         }
     }
 }

@@ -13,7 +13,7 @@ ghost use Rattle.desk_stream.specs.Ran.{Seen, ended_by, Ends};
 ghost use Rattle.desk_stream.specs.Known.{Wrote, EndsOver, RunsOver};
 
 use crate::input::Stream;
-use crate::sink::{Lines, Sink};
+use crate::sink::Sink;
 use desk_report::buffer::Bytes;
 use desk_report::desk::Desk;
 use std::io::{Read, Write};
@@ -36,13 +36,13 @@ pub struct Ended {
 }
 
 // A proved loop has to end: it reads as often as no run does.
-fn turns<R: Read, W: Write>(stream: &mut Stream, reader: &mut R, out: &mut W) -> End
+fn turns<R: Read, W: Write>(stream: &mut Stream, sink: Sink, reader: &mut R, out: &mut W) -> End
     requires { stream.old.input ≡ [] }
-    ensures value { ((w : Seen) × (record { desk = stream.new.desk; end = result } ≡ ended_by stream.old.desk w)) × Ends stream.old.lines.sink result }
-    ensures over { EndsOver stream.old.desk stream.old.lines.sink (R.remaining reader.old) (R.remaining reader.new) (W.contents out.old) (W.contents out.new) stream.new.desk result }
+    ensures value { ((w : Seen) × (record { desk = stream.new.desk; end = result } ≡ ended_by stream.old.desk w)) × Ends sink result }
+    ensures over { EndsOver stream.old.desk sink (R.remaining reader.old) (R.remaining reader.new) (W.contents out.old) (W.contents out.new) stream.new.desk result }
 {
     for _ in 0..u64::MAX {
-        if let Err(end) = stream.read_on(reader, out) {
+        if let Err(end) = stream.read_on(sink, reader, out) {
             return end;
         }
     }
@@ -59,13 +59,10 @@ pub fn run<R: Read, W: Write>(desk: Desk, sink: Sink, reader: &mut R, out: &mut 
 {
     let mut stream = Stream {
         desk,
-        lines: Lines {
-            sink,
-            bytes: Bytes::new(),
-        },
+        lines: Bytes::new(),
         input: Bytes::new(),
     };
-    let end = turns(&mut stream, reader, out);
+    let end = turns(&mut stream, sink, reader, out);
     Ended {
         desk: stream.desk,
         end,

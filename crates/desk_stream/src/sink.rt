@@ -9,9 +9,10 @@ use crate::End;
 use desk_report::buffer::Bytes;
 use std::io::Write;
 
+// Where lines go but for the writer, which is lent for each call: a struct of both would be made at each.
 #[derive(Clone, Copy)]
 pub struct Sink {
-    // Whether a write that fails ends the run; else its lines are dropped.
+    // Whether a write that fails ends the run; else its lines are dropped. Asked in `write` alone, so no type of sinks is made of it.
     pub needed: bool,
 }
 
@@ -26,42 +27,36 @@ impl Sink {
         }
         Ok(())
     }
-}
 
-// Lines, those that are not written out yet.
-#[derive(Drop)]
-pub(crate) struct Lines {
-    pub(crate) sink: Sink,
-    pub(crate) bytes: Bytes<4096>,
-}
-
-impl Lines {
-    // Writes out what stands there.
-    pub(crate) fn write_out<W: Write>(&mut self, out: &mut W) -> Result<(), End>
-        ensures same { self.new.sink ≡ self.old.sink }
-        ensures goes { Goes self.old.sink result }
-        ensures wrote { OnOk result (Wrote self.old.sink (W.contents out.old) (W.contents out.new) self.old.bytes) }
-        ensures empty { OnOk result (self.new.bytes ≡ []) }
+    // Writes out the lines that stand there.
+    pub(crate) fn write_out<W: Write>(self, lines: &mut Bytes<4096>, out: &mut W) -> Result<(), End>
+        ensures goes { Goes self result }
+        ensures wrote { OnOk result (Wrote self (W.contents out.old) (W.contents out.new) lines.old) }
+        ensures empty { OnOk result (lines.new ≡ []) }
     {
-        self.sink.write(out, self.bytes.as_slice())?;
-        self.bytes.clear();
+        self.write(out, lines.as_slice())?;
+        lines.clear();
         Ok(())
     }
 
     // Adds a line. Where it has no room, what stands there is written out first.
-    pub(crate) fn add<W: Write>(&mut self, out: &mut W, line: &[u8]) -> Result<(), End>
+    pub(crate) fn add<W: Write>(
+        self,
+        lines: &mut Bytes<4096>,
+        out: &mut W,
+        line: &[u8],
+    ) -> Result<(), End>
         requires { length line.now ≤ 4096 }
-        ensures same { self.new.sink ≡ self.old.sink }
-        ensures goes { Goes self.old.sink result }
-        ensures held { OnOk result (self.new.bytes ≡ held self.old.bytes line.now) }
-        ensures owes { OnOk result (Owes self.old.sink (W.contents out.old) (W.contents out.new) (self.old.bytes ++ line.now) self.new.bytes) }
+        ensures goes { Goes self result }
+        ensures held { OnOk result (lines.new ≡ held lines.old line.now) }
+        ensures owes { OnOk result (Owes self (W.contents out.old) (W.contents out.new) (lines.old ++ line.now) lines.new) }
     {
-        if line.len() <= self.bytes.room() {
-            self.bytes.extend(line);
+        if line.len() <= lines.room() {
+            lines.extend(line);
             return Ok(());
         }
-        self.write_out(out)?;
-        self.bytes.extend(line);
+        self.write_out(lines, out)?;
+        lines.extend(line);
         Ok(())
     }
 }

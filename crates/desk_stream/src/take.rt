@@ -6,29 +6,30 @@ ghost use Rattle.desk_stream.specs.Took.{Taken};
 ghost use Rattle.desk_stream.specs.Known.{Owes};
 
 use crate::End;
-use crate::sink::Lines;
+use crate::sink::Sink;
+use desk_report::buffer::Bytes;
 use desk_report::desk::{Desk, Next};
 use std::io::Write;
 
 // Takes the packets that are whole, and says how many bytes they are, or nothing where a refused length stops it. Their lines, from the first
 // that is not written out, stand there alone then.
 pub(crate) fn take_all<W: Write>(
+    sink: Sink,
     desk: &mut Desk,
-    lines: &mut Lines,
+    lines: &mut Bytes<4096>,
     out: &mut W,
     input: &[u8],
 ) -> Result<Option<usize>, End>
-    ensures same { lines.new.sink ≡ lines.old.sink }
-    ensures took { Taken desk.old lines.old.sink input.now desk.new result }
-    ensures collected { OnOk result (lines.new.bytes ≡ held_all desk.old input.now) }
-    ensures owes { OnOk result (Owes lines.old.sink (W.contents out.old) (W.contents out.new) (all_taken desk.old input.now).written lines.new.bytes) }
+    ensures took { Taken desk.old sink input.now desk.new result }
+    ensures collected { OnOk result (lines.new ≡ held_all desk.old input.now) }
+    ensures owes { OnOk result (Owes sink (W.contents out.old) (W.contents out.new) (all_taken desk.old input.now).written lines.new) }
 {
-    lines.bytes.clear();
+    lines.clear();
     let mut used = 0;
-    // No range or iterator: each packet says where the next begins.
+    // No range, iterator or closure: each packet says where the next begins, or that none does.
     while used < input.len() {
         let (next, line) = desk.step(&input[used..]);
-        lines.add(out, line.as_slice())?;
+        sink.add(lines, out, line.as_slice())?;
         match next {
             Next::Used(n) => used += n,
             Next::More => return Ok(Some(used)),

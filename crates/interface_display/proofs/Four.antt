@@ -12,7 +12,7 @@ use lib.ListN.{take, drop, set, get_or, length, length-take}
 use Rattle.std.proofs.lemmas.List.{take_more}
 use borrow.Author.Tests.{eqb-true, leb-true, lt-ltb}
 use Rattle.power_policy_interface.proofs.OneByte.{reason_read_write}
-use Rattle.power_policy_interface.proofs.Conjunction.{and_both}
+use Rattle.std.proofs.lemmas.Bool.{and_parts}
 use Rattle.power_policy_interface.specs.Capability.{disconnect_byte, disconnect_from}
 use Rattle.power_policy_interface.specs.declared.capability.DisconnectFlags.{DisconnectFlags}
 use Rattle.power_policy_interface.specs.declared.service.event.Event.{Event}
@@ -25,8 +25,8 @@ use Rattle.interface_display.specs.Notices.{listed, filler, empty, pushed, appli
 
 pub counted : (n : Notices) → padded n ≡ true → (n.count ≤ 4) × ((length n.events ≡ 4) × (all_filler (drop n.count n.events) ≡ true))
 counted n h =
-    let a = and_both (leb n.count 4) _ h in
-    let b = and_both (eqb (length n.events) 4) _ a.1 in
+    let a = and_parts (leb n.count 4) _ h in
+    let b = and_parts (eqb (length n.events) 4) _ a.1 in
     (leb-true n.count 4 a.0, (eqb-true (length n.events) 4 b.0, b.1))
 
 pub at_most_four : (n : Notices) → padded n ≡ true → length (listed n) ≤ 4
@@ -34,7 +34,7 @@ at_most_four n h = omega (arith, length-take n.count n.events, (counted n h).0)
 
 -- one notice more
 
-applied_last : (l : List Event) (e : Event) (d : Display) → applied_all (l ++ (e ∷ [])) d ≡ applied_to (applied_all l d) e
+pub applied_last : (l : List Event) (e : Event) (d : Display) → applied_all (l ++ (e ∷ [])) d ≡ applied_to (applied_all l d) e
 applied_last [] e d = refl
 applied_last (a ∷ l) e d = applied_last l e (applied_to d a)
 
@@ -64,7 +64,7 @@ no_reason_lem f h =
 
 is_filler_lem : (e : Event) → is_filler e ≡ true → e ≡ filler
 is_filler_lem (Event.ConsumerDisconnected p f) h =
-    let a = and_both (eqb p 0) (eqb (disconnect_byte f) 0) h in
+    let a = and_parts (eqb p 0) (eqb (disconnect_byte f) 0) h in
     let x : p ≡ 0 = eqb-true p 0 a.0 in
     let y = no_reason_lem f (eqb-true (disconnect_byte f) 0 a.1) in
     λ i. Event.ConsumerDisconnected (x i) (y i)
@@ -74,10 +74,10 @@ is_filler_lem (Event.ProviderConnected p c) h = absurd (cc)
 is_filler_lem (Event.Unconstrained u) h = absurd (cc)
 
 head_filler : (e : Event) (l : List Event) → all_filler (e ∷ l) ≡ true → filler ≡ e
-head_filler e l h = sym (is_filler_lem e (and_both (is_filler e) (all_filler l) h).0)
+head_filler e l h = sym (is_filler_lem e (and_parts (is_filler e) (all_filler l) h).0)
 
 tail_filler : (e : Event) (l : List Event) → all_filler (e ∷ l) ≡ true → all_filler l ≡ true
-tail_filler e l h = (and_both (is_filler e) (all_filler l) h).1
+tail_filler e l h = (and_parts (is_filler e) (all_filler l) h).1
 
 abbrev pub rebuilt : List Event → Notices
 rebuilt [] = empty

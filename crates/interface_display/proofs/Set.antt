@@ -8,7 +8,7 @@ use native.Mathlib.Omega.{arith}
 use lib.Bits.{bit_or, bit_xor}
 use lib.Dec.{eqb, ltb}
 use borrow.Author.Tests.{eqb-true, eqb-false, ltb-true, lt-ltb}
-use Rattle.power_policy_interface.proofs.Conjunction.{and_both}
+use Rattle.std.proofs.lemmas.Bool.{and_parts}
 use Rattle.interface_display.specs.Providers.{max_connected_providers, bit_at, contains, len, room, Inserted, Removed}
 use Rattle.interface_display.specs.Set.{SetLaws, more}
 use Rattle.interface_display.specs.declared.providers.Providers.{Providers}
@@ -25,7 +25,7 @@ without s p = record { mask = bit_xor s.mask (2 ^ p) }
 
 pub member : (s : Providers) (p : ℕ) → contains s p ≡ true → (p < 16) × (bit_at s.mask p ≡ 1)
 member s p e =
-    let h = and_both (ltb p 16) (eqb (bit_at s.mask p) 1) e in
+    let h = and_parts (ltb p 16) (eqb (bit_at s.mask p) 1) e in
     (ltb-true p 16 h.0, eqb-true (bit_at s.mask p) 1 h.1)
 
 not_member : (s : Providers) (p : ℕ) → p < 16 → contains s p ≡ false → bit_at s.mask p ≡ 0
@@ -35,7 +35,7 @@ not_member s p l e =
 
 pub has_room : (s : Providers) (p : ℕ) → room s p ≡ true → (p < 16) × (len s < max_connected_providers)
 has_room s p e =
-    let h = and_both (ltb p 16) (ltb (len s) max_connected_providers) e in
+    let h = and_parts (ltb p 16) (ltb (len s) max_connected_providers) e in
     (ltb-true p 16 h.0, ltb-true (len s) max_connected_providers h.1)
 
 with_there : (s : Providers) (p q : ℕ) → p < 16 → contains (with s p) q ≡ (contains s q || eqb q p)
@@ -51,17 +51,6 @@ without_there s p q h = go (eqb q p) refl
     go : (b : Bool) → eqb q p ≡ b → contains (without s p) q ≡ (contains s q && not b)
     go true e = rw (eqb-true q p e, cleared_bit s.mask p (member s p h).1, and-false (ltb p 16)) (sym (and-false (contains s p)))
     go false e = rw (cleared_others s.mask p q (eqb-false q p e)) (sym (and-true (contains s q)))
-
--- over numbers
-
-as_many : (a : ℕ) → a ≡ a + 0
-as_many a = omega arith
-
-one_more : (a b : ℕ) {x y : ℕ} → a + y ≡ b + x → x ≡ 1 → y ≡ 0 → a ≡ b + 1
-one_more a b h i j = omega (arith, h, i, j)
-
-one_less : (a b m : ℕ) → b ≡ a + 1 → b ≤ m → a < m
-one_less a b m e l = omega (arith, e, l)
 
 -- by what is found
 
@@ -83,11 +72,11 @@ inserted_there s p q true e r f = go (eqb q p) refl
     go false i = sym (or-false (contains s q))
 
 pub inserted_length : (s : Providers) (p : ℕ) (c : Bool) → contains s p ≡ c → (r : Bool) → room s p ≡ r → len (inserted s p c r).providers ≡ len s + more (inserted s p c r).found
-inserted_length s p true e r f = as_many (len s)
-inserted_length s p false e false f = as_many (len s)
+inserted_length s p true e r f = omega arith
+inserted_length s p false e false f = omega arith
 inserted_length s p false e true f =
     let l = (has_room s p f).0 in
-    one_more (len (with s p)) (len s) (ones_but (with s p).mask s.mask p 16 (set_others s.mask p) l) (set_bit s.mask p) (not_member s p l e)
+    omega (arith, ones_but (with s p).mask s.mask p 16 (set_others s.mask p) l, set_bit s.mask p, not_member s p l e)
 
 removed_there : (s : Providers) (p q : ℕ) (c : Bool) → contains s p ≡ c → contains (removed s p c).providers q ≡ (contains s q && not (eqb q p))
 removed_there s p q true e = without_there s p q e
@@ -98,10 +87,10 @@ removed_there s p q false e = go (eqb q p) refl
     go false i = sym (and-true (contains s q))
 
 pub removed_length : (s : Providers) (p : ℕ) (c : Bool) → contains s p ≡ c → len s ≡ len (removed s p c).providers + cond (removed s p c).found 1 0
-removed_length s p false e = as_many (len s)
+removed_length s p false e = omega arith
 removed_length s p true e =
     let h = member s p e in
-    one_more (len s) (len (without s p)) (sym (ones_but (without s p).mask s.mask p 16 (cleared_others s.mask p) h.0)) h.1 (cleared_bit s.mask p h.1)
+    omega (arith, ones_but (without s p).mask s.mask p 16 (cleared_others s.mask p) h.0, h.1, cleared_bit s.mask p h.1)
 
 found_is : (s : Providers) (p : ℕ) (c : Bool) → (removed s p c).found ≡ c
 found_is s p true = refl
@@ -109,7 +98,7 @@ found_is s p false = refl
 
 without_room : (s : Providers) (p q : ℕ) → len s ≤ max_connected_providers → contains s p ≡ true → q < 16 → room (without s p) q ≡ true
 without_room s p q l e i =
-    let h : len (without s p) < max_connected_providers = one_less (len (without s p)) (len s) max_connected_providers (removed_length s p true e) l in
+    let h : len (without s p) < max_connected_providers = omega (arith, removed_length s p true e, l) in
     rw (lt-ltb q 16 i, lt-ltb (len (without s p)) max_connected_providers h)
 
 pub set_laws : SetLaws

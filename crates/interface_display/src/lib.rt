@@ -7,7 +7,7 @@ pub mod packet;
 pub mod providers;
 
 ghost use Rattle.std.specs.Prelude.{◌≡◌};
-ghost use Rattle.interface_display.specs.Display.{fresh, applied_to};
+ghost use Rattle.interface_display.specs.Display.{fresh, state_number, applied_to};
 
 use crate::providers::Providers;
 use power_policy_interface::capability::ConsumerPowerCapability;
@@ -32,11 +32,20 @@ pub struct Display {
 // What a follower says of itself.
 #[derive(Clone, Copy, PartialEq, Eq)]
 pub enum State {
-    Lost,
+    Lost = 0,
     // Showing n with nothing held.
-    Level,
+    Level = 1,
     // Showing n with something held.
-    Waiting,
+    Waiting = 2,
+}
+
+impl From<State> for u8 {
+    ghost from_gives = { λ s n. n ≡ state_number s };
+
+    // The number of a state.
+    fn from(s: State) -> u8 {
+        s as u8
+    }
 }
 
 impl Display {

@@ -10,7 +10,8 @@ use power_policy_interface::service::event::Event;
 // One for each notice that an event can have.
 pub const PLACES: usize = MAX_NOTICES as usize;
 
-// The first `count` of the four places are meant; those past them hold a consumer disconnected at port 0 with no reason.
+// The first `count` of the four places are meant; those past them hold a consumer disconnected at port 0 with no reason. Memory is
+// fixed, so it is no Vec; and a packet is Copy, which the library's arrayvec is not.
 #[derive(Clone, Copy, PartialEq, Eq)]
 pub struct Notices {
     pub count: u8,

@@ -6,7 +6,7 @@ use crate::notices::Notices;
 #[derive(Clone, Copy, PartialEq, Eq)]
 pub struct EventPacket {
     pub number: u32,
-    // The answer byte: 0 done, else the error's, 1 to 10.
+    // The answer byte: 0 done, else the error's, 1 to 10. No Result: one could carry the states of an InvalidState, which no packet has.
     pub answer: u8,
     // How many orders the event gave, 0 to 35.
     pub orders: u8,

@@ -5,10 +5,10 @@ ghost use Rattle.interface_display.specs.Providers.{none, contains, len, insert_
 use power_policy_interface::limits::MAX_PORTS;
 
 // The most that are tracked at a time.
-pub const MAX_CONNECTED_PROVIDERS: u32 = 4;
+pub const MAX_CONNECTED_PROVIDERS: u16 = 4;
 
 // A bit for each port, built and tested by shifts; at most four are set.
-#[derive(Clone, Copy, PartialEq, Eq)]
+#[derive(Clone, Copy, PartialEq, Eq, Default)]
 pub struct Providers {
     pub mask: u16,
 }
@@ -29,10 +29,10 @@ impl Providers {
 
     // How many ports are tracked.
     #[tactic(auto, using(crate::proofs::Count::ones_counted))]
-    pub fn len(self) -> u32
+    pub fn len(self) -> u16
         ensures { result ≡ len self }
     {
-        self.mask.count_ones()
+        self.mask.count_ones() as u16
     }
 
     // Inserts a port: whether it was added, as it was not there yet; the port itself if there is no room for it.

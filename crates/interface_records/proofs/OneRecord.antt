@@ -10,7 +10,7 @@ use native.Mathlib.Omega.{arith}
 use lib.Dec.{eqb}
 use lib.ListN.{length, get_or}
 use borrow.Author.Tests.{eqb-true}
-use Rattle.power_policy_interface.specs.Charger.{internal_number}
+use Rattle.power_policy_interface.specs.Charger.{internal_number, internal_from}
 use Rattle.power_policy_interface.specs.declared.capability.ConsumerPowerCapability.{ConsumerPowerCapability}
 use Rattle.power_policy_interface.specs.declared.capability.ProviderPowerCapability.{ProviderPowerCapability}
 use Rattle.power_policy_interface.specs.declared.charger.InternalState.{InternalState}
@@ -21,7 +21,7 @@ use Rattle.power_policy_interface.specs.declared.psu.State as psu
 use Rattle.interface_records.specs.Group.{group_at, group_bytes, empty_group, consumer_group, provider_group, option_consumer_group, option_provider_group, all_zero, consumer_from, provider_from, option_consumer_from, option_provider_from}
 use Rattle.interface_records.specs.Row.{AllBytes}
 use Rattle.interface_records.specs.Psu.{psu_state_group, psu_bytes, providing, consuming, state_cases, psu_state_from, psu_of, psu_from}
-use Rattle.interface_records.specs.Charger.{charger_bytes, internal_from, charger_of, charger_from}
+use Rattle.interface_records.specs.Charger.{charger_bytes, charger_of, charger_from}
 use Rattle.interface_records.specs.declared.group.Group.{Group}
 use Rattle.interface_records.proofs.Groups.{Bytes, zeros, consumer_back, provider_back, option_consumer_back, option_provider_back, consumer_written, provider_written, option_consumer_written, option_provider_written}
 

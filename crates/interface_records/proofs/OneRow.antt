@@ -18,7 +18,10 @@ use Rattle.interface_records.specs.Psu.{psu_bytes, psu_from}
 use Rattle.interface_records.specs.Charger.{charger_bytes, charger_from}
 use Rattle.interface_records.proofs.OneRecord.{psu_read_write, psu_write_read, charger_read_write, charger_write_read}
 
-drop_bytes : (w : ℕ) (s : List ℕ) → AllBytes s → AllBytes (drop w s)
+pub no_bytes : AllBytes []
+no_bytes k = lit< tt
+
+pub drop_bytes : (w : ℕ) (s : List ℕ) → AllBytes s → AllBytes (drop w s)
 drop_bytes w s h k = rw get_or-drop (h (w + k))
 
 take_tested : (w : ℕ) (s : List ℕ) (k : ℕ) (t : Bool) → ltb k w ≡ t → AllBytes s → get_or (take w s) k 0 < 256
@@ -27,7 +30,7 @@ take_tested w s k false e h =
     let q : length (take w s) ≤ k = rw length-take (omega (arith, ltb-false k w e)) in
     rw (get_or-eq_default (take w s) 0 q) (lit< tt)
 
-take_bytes_lem : (w : ℕ) (s : List ℕ) → AllBytes s → AllBytes (take w s)
+pub take_bytes_lem : (w : ℕ) (s : List ℕ) → AllBytes s → AllBytes (take w s)
 take_bytes_lem w s h k = take_tested w s k (ltb k w) refl h
 
 module _ {A : Type 0} (read : List ℕ → Option A) (write : A → List ℕ) (w : ℕ) where

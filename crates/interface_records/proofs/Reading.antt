@@ -5,14 +5,16 @@ use Rattle.std.specs.Prelude.{None, Option, Some}
 use mathlib.Core.Path.{◌≡◌, refl, sym, ap, ◌∙◌}
 use mathlib.Core.List.{List, [], ◌∷◌, ◌++◌, append_assoc, append-nil}
 use Prim.Native.Nat.{ℕ, suc, ◌+◌, ◌*◌, ◌-◌, ◌≤◌, ◌<◌}
-use native.Mathlib.Nat.{suc-mul, add-sub_cancel_left}
+use native.Mathlib.Nat.{suc-mul, mul-le-mul_right}
 use native.Mathlib.Numerals.{add-one}
 use native.Mathlib.Omega.{arith}
-use lib.ListN.{length, get_or, take, drop, set, replicate, length-set, length-replicate, take-append-drop}
-use lib.Seq.{take-suc-set, drop-set-lt, drop-drop, drop-cons, length-take-le}
-use borrow.Author.Tests.{le-leb, lt-leb, eq-eqb, ne_eqb}
+use lib.ListN.{length, get_or, take, drop, set, replicate, length-append, length-drop, length-set, length-replicate, take-append-drop}
+use lib.Seq.{take-suc-set, drop-set-lt, drop-drop, drop-cons, take_at, drop_at, length-take-le}
+use mathlib.Core.Bool.{Bool, true, false}
+use lib.Dec.{leb}
+use borrow.Author.Tests.{le-leb, eq-eqb, leb-true, leb-false}
 use Rattle.std.specs.Option.{option_map}
-use Rattle.interface_records.specs.Row.{cons_option, records, row, filled, filled_row}
+use Rattle.interface_records.specs.Row.{cons_option, records, filled, filled_row}
 
 module _ {A : Type 0} where
   -- what was read so far, followed by what the rest reads to
@@ -84,25 +86,21 @@ module _ {A : Type 0} (d : A) (m : ℕ) (xs : List A) (e : length xs ≡ m) wher
       let hx : n ≤ length xs = omega arith in
       rw (length-take-le n xs hx, ← q) (take-append-drop n xs)
 
--- where the loop stands: i records of the row are in the first places, and the other places are default
-pub record Reached {A : Type 0} (read : List ℕ → Option A) (width most : ℕ) (d : A) (n : ℕ) (s : List ℕ) (xs : List A) (i : ℕ) : Type 0 where
+-- where the loop stands: i records of the row are in the first places, and the other places are default; r is what is left of the bytes
+pub record Reached {A : Type 0} (read : List ℕ → Option A) (width most : ℕ) (d : A) (n : ℕ) (s : List ℕ) (xs : List A) (i : ℕ) (r : List ℕ) : Type 0 where
   pub passed : i ≤ n
   pub few : n ≤ most
   pub whole : length s ≡ n * width
   pub places : length xs ≡ most
   pub others : drop i xs ≡ replicate (most - i) d
   pub front : ReadTo read width n s xs i
+  pub left : r ≡ drop (i * width) s
 
-module _ {A : Type 0} (read : List ℕ → Option A) (width most : ℕ) (d : A) (n : ℕ) (s : List ℕ) where
-  pub too_many : most < n → row read width most n s ≡ None
-  too_many h = rw (lt-leb n most h)
-
-  pub other_length : n ≤ most → (length s ≡ n * width → ⊥) → row read width most n s ≡ None
-  other_length h k = rw (le-leb n most h, ne_eqb (length s) (n * width) k)
-
-  pub begun : n ≤ most → length s ≡ n * width → Reached read width most d n s (replicate most d) 0
+module _ {A : Type 0} (read : List ℕ → Option A) (width most : ℕ) (d : A) (n : ℕ) (s : List ℕ) (some : 0 < width) where
+  pub begun : n ≤ most → length s ≡ n * width → Reached read width most d n s (replicate most d) 0 s
   begun h e =
       let k : most - 0 ≡ most = omega arith in
+      let z : 0 * width ≡ 0 = omega arith in
       record {
         passed = omega arith;
         few = h;
@@ -110,36 +108,62 @@ module _ {A : Type 0} (read : List ℕ → Option A) (width most : ℕ) (d : A) 
         places = length-replicate most d;
         others = rw k;
         front = start read width n s (replicate most d);
+        left = rw z;
       }
 
-  -- the record at place i, as a part of the row
-  abbrev record_at : ℕ → List ℕ
-  record_at i = take (i * width + width - i * width) (drop (i * width) s)
+  module _ (xs : List A) (i : ℕ) (r : List ℕ) (q : Reached read width most d n s xs i r) where
+    left_length : length r ≡ n * width - i * width
+    left_length = rw (q.left, length-drop, q.whole)
 
-  pub gone_on : (xs : List A) (i : ℕ) (a : A) → i < n → read (record_at i) ≡ Some a → Reached read width most d n s xs i
-      → Reached read width most d n s (set xs i a) (i + 1)
-  gone_on xs i a h e q =
-      let hm : i < most = omega arith in
-      let hx : i < length xs = omega arith in
-      record {
-        passed = omega arith;
-        few = q.few;
-        whole = q.whole;
-        places = rw length-set q.places;
-        others = left_over d most xs q.places i a hm q.others;
-        front = next read width n s xs i a h hx (rw (add-sub_cancel_left (i * width) width) at e) q.front;
-      }
+    -- where fewer bytes are left than a record has, every record is read
+    pub ended : length r < width → n ≤ i
+    ended h = by (leb n i) refl
+      where
+        by : (t : Bool) → leb n i ≡ t → n ≤ i
+        by true e = leb-true n i e
+        by false e =
+            let k : suc i ≤ n = leb-false n i e in
+            let m : i * width + width ≤ n * width = rw (← suc-mul i width) (mul-le-mul_right width k) in
+            absurd (omega (arith, left_length, h, m))
 
-  pub turned_back : (xs : List A) (i : ℕ) → i < n → read (record_at i) ≡ None → Reached read width most d n s xs i
-      → filled_row read width most d n s ≡ None
-  turned_back xs i h e q =
-      rw (le-leb n most q.few, eq-eqb (length s) (n * width) q.whole)
-      (ap (option_map (filled most d)) (stop read width n s xs i h (rw (add-sub_cancel_left (i * width) width) at e) q.front))
+    module _ (x t : List ℕ) (e : r ≡ x ++ t) (w : length x ≡ width) where
+      -- where a record is left, not every one is read
+      pub going : i < n
+      going = by (leb n i) refl
+        where
+          by : (b : Bool) → leb n i ≡ b → i < n
+          by false f = leb-false n i f
+          by true f =
+              let m : n * width ≤ i * width = mul-le-mul_right width (leb-true n i f) in
+              let l : length r ≡ length x + length t = rw e (length-append x t) in
+              absurd (omega (arith, left_length, l, w, m, some))
 
-  pub all_read : (xs : List A) (i : ℕ) → n ≤ i → Reached read width most d n s xs i
-      → filled_row read width most d n s ≡ Some xs
-  all_read xs i h q =
-      let e : i ≡ n = omega arith in
-      rw (le-leb n most q.few, eq-eqb (length s) (n * width) q.whole)
-      (ap (option_map (filled most d)) (end read width n s xs i e q.front)
-      ∙ ap Some (filled_up d most xs q.places n q.few (rw e at q.others)))
+      record_read : read x ≡ read (take width (drop (i * width) s))
+      record_read = rw (← q.left, e, take_at x t width w)
+
+      pub gone_on : (a : A) → read x ≡ Some a → Reached read width most d n s (set xs i a) (i + 1) t
+      gone_on a f =
+          let hm : i < most = omega (arith, going, q.few) in
+          let hx : i < length xs = omega (arith, hm, q.places) in
+          let k : (i + 1) * width ≡ i * width + width = rw add-one (suc-mul i width) in
+          record {
+            passed = omega (arith, going);
+            few = q.few;
+            whole = q.whole;
+            places = rw length-set q.places;
+            others = left_over d most xs q.places i a hm q.others;
+            front = next read width n s xs i a going hx (sym record_read ∙ f) q.front;
+            left = sym (drop_at x t width w) ∙ (ap (drop width) (sym e ∙ q.left) ∙ rw (drop-drop width (i * width) s, k));
+          }
+
+      pub turned_back : read x ≡ None → filled_row read width most d n s ≡ None
+      turned_back f =
+          rw (le-leb n most q.few, eq-eqb (length s) (n * width) q.whole)
+          (ap (option_map (filled most d)) (stop read width n s xs i going (sym record_read ∙ f) q.front))
+
+    pub all_read : length r < width → filled_row read width most d n s ≡ Some xs
+    all_read h =
+        let e : i ≡ n = omega (arith, ended h, q.passed) in
+        rw (le-leb n most q.few, eq-eqb (length s) (n * width) q.whole)
+        (ap (option_map (filled most d)) (end read width n s xs i e q.front)
+        ∙ ap Some (filled_up d most xs q.places n q.few (rw e at q.others)))

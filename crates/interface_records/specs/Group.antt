@@ -29,6 +29,10 @@ group_bytes g = g.number ∷ g.v0 ∷ g.v1 ∷ g.c0 ∷ g.c1 ∷ g.flags ∷ []
 abbrev pub empty_group : ℕ → Group
 empty_group n = record { number = n; v0 = 0; v1 = 0; c0 = 0; c1 = 0; flags = 0 }
 
+-- a number, a byte and four zeros
+abbrev pub pair_group : ℕ → ℕ → Group
+pair_group a b = record { number = a; v0 = b; v1 = 0; c0 = 0; c1 = 0; flags = 0 }
+
 -- mV and mA as four bytes, the low bytes first
 abbrev pub power_bytes : PowerCapability → List ℕ
 power_bytes c = c.voltage_mv % 256 ∷ c.voltage_mv / 256 ∷ c.current_ma % 256 ∷ c.current_ma / 256 ∷ []
@@ -92,6 +96,10 @@ module _ {A : Type 0} where
   abbrev pub present : Option A → Option (Option A)
   present None = None
   present (Some c) = Some (Some c)
+
+  -- presence 0: nothing, where only zeros follow; presence 1: a value; a presence above 1 is refused
+  abbrev pub presence_from : ℕ → Bool → Option A → Option (Option A)
+  presence_from n empty value = get_or (cond empty (Some None) None ∷ present value ∷ []) n None
 
   -- presence 0: zeros; presence 1: a capability
   abbrev pub option_cases : (Group → Option A) → Group → List (Option (Option A))

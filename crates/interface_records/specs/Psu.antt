@@ -1,6 +1,7 @@
 -- SHP-8: the PSU record of 18 bytes (state 0 Detached, 1 Idle, 2 ConnectedProvider, 3 ConnectedConsumer; contract; consumer
 -- capability; provider request), and the row of a console's ports.
-use Rattle.std.specs.Prelude.{ℕ, cond, List, [], ◌∷◌, ◌++◌, eqb, length, get_or, None, Option, Some}
+use Rattle.std.specs.Prelude.{ℕ, ◌<◌, cond, List, [], ◌∷◌, ◌++◌, eqb, length, get_or, None, Option, Some}
+use lib.Dec.{lit<}
 use Rattle.power_policy_interface.specs.declared.capability.ConsumerPowerCapability.{ConsumerPowerCapability}
 use Rattle.power_policy_interface.specs.declared.capability.ProviderPowerCapability.{ProviderPowerCapability}
 use Rattle.power_policy_interface.specs.Limits.{max_ports, psu_length}
@@ -63,3 +64,7 @@ psu_from s =
 -- the records of so many ports, at most 16
 abbrev pub psu_row : ℕ → List ℕ → Option (List State)
 psu_row ports s = filled_row psu_from psu_length max_ports default_state ports s
+
+-- a record has bytes
+pub psu_some : 0 < psu_length
+psu_some = lit< tt

@@ -2,7 +2,7 @@
 ghost use Rattle.std.specs.Prelude.{◌≡◌, ℕ, ◌+◌, Option, get_or};
 ghost use Rattle.power_policy_interface.specs.Capability.{consumer_flags_byte, consumer_flags_from, provider_flags_byte, provider_flags_from};
 ghost use Rattle.power_policy_interface.specs.declared.capability.PowerCapability.{PowerCapability};
-ghost use Rattle.interface_records.specs.Group.{OneEncoding, group_at, capability_group, capability_from, consumer_with, provider_with, all_zero, option_from, empty_group, option_group, power_bytes, power_of};
+ghost use Rattle.interface_records.specs.Group.{OneEncoding, group_at, group_bytes, capability_group, capability_from, consumer_with, provider_with, all_zero, option_from, empty_group, pair_group, option_group, presence_from, power_bytes, power_of};
 ghost use Rattle.interface_records.specs.Encodings.{consumer_encoding, provider_encoding};
 
 use power_policy_interface::capability::{
@@ -79,8 +79,8 @@ impl FlaggedCapability for ProviderPowerCapability {
     }
 }
 
-// Six bytes by value.
-#[derive(Clone, Copy)]
+// Six bytes by value, each with its name in the layout. A struct and no array, as bytes_groups has Quad.
+#[derive(Clone, Copy, PartialEq, Eq)]
 pub struct Group {
     pub number: u8,
     pub v0: u8,
@@ -91,7 +91,8 @@ pub struct Group {
 }
 
 impl Group {
-    // The six bytes from a position on. A position and no part of the slice, which may be short: zeros stand past its end.
+    // The six bytes from a position on, zeros past the end. A position and no array: it cannot fail, and with an array each caller would cut and
+    // convert, and answer for a slice that is short.
     pub fn at(s: &[u8], at: usize) -> Group
         ensures { result ≡ group_at s.now at }
     {
@@ -105,6 +106,13 @@ impl Group {
         }
     }
 
+    // A method, as the library's to_le_bytes: with a From each call would name the array's length.
+    pub fn bytes(self) -> [u8; 6]
+        ensures { result ≡ group_bytes self }
+    {
+        [self.number, self.v0, self.v1, self.c0, self.c1, self.flags]
+    }
+
     // mV and mA of the group.
     pub fn capability(self) -> PowerCapability
         ensures { result ≡ capability_from self }
@@ -116,12 +124,7 @@ impl Group {
     pub fn is_zero(self) -> bool
         ensures { result ≡ all_zero self }
     {
-        (self.v0 as u16)
-            + (self.v1 as u16)
-            + (self.c0 as u16)
-            + (self.c1 as u16)
-            + (self.flags as u16)
-            == 0
+        self == Group::empty(self.number)
     }
 
     // The group's capability with flags, none where the flag byte is refused.
@@ -135,11 +138,7 @@ impl Group {
     pub fn option_flagged<C: FlaggedCapability>(self) -> Option<Option<C>>
         ensures { result ≡ option_from (λ g. C.parts_from (capability_from g) g.flags) self }
     {
-        match self.number {
-            0 if self.is_zero() => Some(None),
-            1 => Some(Some(self.flagged()?)),
-            _ => None,
-        }
+        optional(self.number, self.is_zero(), self.flagged())
     }
 
     // A number with no capability.
@@ -153,6 +152,16 @@ impl Group {
             c0: 0,
             c1: 0,
             flags: 0,
+        }
+    }
+
+    // A number, a byte and four zeros.
+    pub fn pair(number: u8, v0: u8) -> Group
+        ensures { result ≡ pair_group number v0 }
+    {
+        Group {
+            v0,
+            ..Group::empty(number)
         }
     }
 
@@ -191,7 +200,7 @@ pub fn power_bytes(c: PowerCapability) -> [u8; 4]
     [v0, v1, c0, c1]
 }
 
-// mV and mA of four bytes.
+// mV and mA of four bytes. A function: neither is a type of this crate, so it can have no From here.
 pub fn power_of(b: [u8; 4]) -> PowerCapability
     ensures { result ≡ power_of b }
 {
@@ -201,7 +210,20 @@ pub fn power_of(b: [u8; 4]) -> PowerCapability
     }
 }
 
-// Byte k after a position, 0 past the end: zeros stand for what bytes cut short do not have.
+// What a presence byte stands before: 0 before zeros alone, or 1 before a value. The byte is matched here alone: an enum of it would be
+// matched once more.
+pub fn optional<T: Copy>(presence: u8, empty: bool, value: Option<T>) -> Option<Option<T>>
+    ensures { result ≡ presence_from presence empty value }
+{
+    match presence {
+        0 if empty => Some(None),
+        1 => value.map(Some),
+        _ => None,
+    }
+}
+
+// Byte k after a position, 0 past the end: zeros stand for what bytes cut short do not have. Each group reads its bytes by it into
+// their names, and cannot fail: a generic over the size would hand over bytes without names.
 pub fn byte(s: &[u8], at: usize, k: usize) -> u8
     ensures { result ≡ get_or s.now (at + k) 0 }
 {

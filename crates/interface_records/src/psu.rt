@@ -1,7 +1,7 @@
 // The PSU record, 18 bytes: the state's number and its contract, the consumer capability and the provider request, each a group.
 ghost use Rattle.std.specs.Prelude.{◌≡◌};
 ghost use Rattle.power_policy_interface.specs.Limits.{psu_length};
-ghost use Rattle.interface_records.specs.Psu.{psu_state_group, psu_state_from, psu_bytes, psu_from, psu_row};
+ghost use Rattle.interface_records.specs.Psu.{psu_some, psu_state_group, psu_state_from, psu_bytes, psu_from, psu_row};
 
 use crate::group::Group;
 use crate::row;
@@ -13,18 +13,20 @@ use power_policy_interface::psu::{PsuState, State};
 const ROW: usize = MAX_PORTS as usize;
 
 // The state and its contract as a group: 0 Detached, 1 Idle, 2 ConnectedProvider, 3 ConnectedConsumer.
-pub fn state_group(s: PsuState) -> Group
-    ensures { result ≡ psu_state_group s }
-{
-    match s {
-        PsuState::Detached => Group::empty(0),
-        PsuState::Idle => Group::empty(1),
-        PsuState::ConnectedProvider(c) => Group::of(2, c),
-        PsuState::ConnectedConsumer(c) => Group::of(3, c),
+impl From<PsuState> for Group {
+    ghost from_gives = { λ s g. g ≡ psu_state_group s };
+
+    fn from(s: PsuState) -> Group {
+        match s {
+            PsuState::Detached => Group::empty(0),
+            PsuState::Idle => Group::empty(1),
+            PsuState::ConnectedProvider(c) => Group::of(2, c),
+            PsuState::ConnectedConsumer(c) => Group::of(3, c),
+        }
     }
 }
 
-// The state and its contract out of a group.
+// The state and its contract out of a group. The number is a byte of the layout, matched here alone: an enum of it would be matched once more.
 pub fn read_state(g: Group) -> Option<PsuState>
     ensures { result ≡ psu_state_from g }
 {
@@ -41,13 +43,11 @@ pub fn read_state(g: Group) -> Option<PsuState>
 pub fn write(s: State) -> [u8; PSU_RECORD]
     ensures { result ≡ psu_bytes s }
 {
-    let a = state_group(s.psu_state);
-    let b = Group::of_option(s.consumer_capability);
-    let c = Group::of_option(s.requested_provider_capability);
-    [
-        a.number, a.v0, a.v1, a.c0, a.c1, a.flags, b.number, b.v0, b.v1, b.c0, b.c1, b.flags,
-        c.number, c.v0, c.v1, c.c0, c.c1, c.flags,
-    ]
+    let mut bytes = [0; PSU_RECORD];
+    bytes[..6].copy_from_slice(&Group::from(s.psu_state).bytes());
+    bytes[6..12].copy_from_slice(&Group::of_option(s.consumer_capability).bytes());
+    bytes[12..].copy_from_slice(&Group::of_option(s.requested_provider_capability).bytes());
+    bytes
 }
 
 // The record of 18 bytes; refused for bytes that no record is written as.
@@ -68,7 +68,7 @@ pub fn read(s: &[u8]) -> Option<State>
 }
 
 // The records of so many ports, one after the other, in the first places; the other places are default records.
-// None on more than 16, a wrong length or any refused record.
+// None on more than 16, a wrong length or any refused record. A name for this row: each call of the generic one names the filling record too.
 pub fn read_row(s: &[u8], ports: usize) -> Option<[State; ROW]>
     ensures { result ≡ psu_row ports s.now }
 {
@@ -79,6 +79,8 @@ impl Record for State {
     ghost LENGTH = { psu_length };
 
     ghost reads = { psu_from };
+
+    ghost some = { psu_some };
 
     const LENGTH: usize = PSU_RECORD;
 

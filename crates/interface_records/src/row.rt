@@ -14,21 +14,25 @@ pub trait Record: Copy {
 
     fn read(s: &[u8]) -> Option<Self>
         ensures { result ≡ reads s.now };
+
+    // A record has bytes.
+    ghost some: { 0 < LENGTH };
 }
 
 // So many records, in the first places of a row; the other places have the record that fills up.
-// None on more than the row has places for, a wrong length or any refused record.
-pub(crate) fn read_row<R: Record, const N: usize>(s: &[u8], count: usize, fill: R) -> Option<[R; N]>
-    requires { N * R.LENGTH < 2 ^ 64 }
+// None on more than the row has places for, a wrong length or any refused record. How many there are is registered, and not told by
+// the bytes.
+pub fn read_row<R: Record, const N: usize>(s: &[u8], count: usize, fill: R) -> Option<[R; N]>
     ensures { result ≡ filled_row R.reads R.LENGTH N fill count s.now }
 {
     let length = R::LENGTH;
-    if N < count || s.len() != count * length {
+    if N < count || count.checked_mul(length) != Some(s.len()) {
         return None;
     }
     let mut row = [fill; N];
-    for i in 0..count {
-        row[i] = R::read(&s[i * length..i * length + length])?;
+    // (By place: after an `iter_mut` the proof knows how long the row is, and no longer what is in it.)
+    for (i, record) in s.chunks_exact(length).enumerate() {
+        row[i] = R::read(record)?;
     }
     Some(row)
 }

@@ -38,6 +38,7 @@ use Rattle.machine_follows.specs.Served.{service_after, numbered, Stands, Opens,
 use Rattle.machine_follows.proofs.Follows.{opened, leaving_answered, switching_answered, connecting_answered, providing_answered}
 use Rattle.machine_follows.proofs.Told.{at_most_four}
 use Rattle.machine_follows.proofs.Kept.{opened_fits, answered_fits}
+use Rattle.std.proofs.lemmas.Bool.{true≢false}
 
 -- the service at a phase, when the event had given so many orders before the open one
 abbrev pub open_orders : Interaction → ℕ
@@ -206,18 +207,16 @@ moved_brings g number given (Phase.Providing p c) m = refl
 
 -- an event that is opened
 
-pub last_not_refused : (a b c d : Bool) → (let n : ℕ = cond a 23 (cond b 24 (cond c 25 (cond d 28 0))) in n ≡ 0) → d ≡ false
-last_not_refused true b c d e = absurd (omega (arith, e))
-last_not_refused false true c d e = absurd (omega (arith, e))
-last_not_refused false false true d e = absurd (omega (arith, e))
-last_not_refused false false false true e = absurd (omega (arith, e))
-last_not_refused false false false false e = refl
+-- the number 0: no condition holds
+pub none_refused : (a b c d : Bool) → (let n : ℕ = cond a 23 (cond b 24 (cond c 25 (cond d 28 0))) in n ≡ 0) → (a ≡ false) × (b ≡ false) × (c ≡ false) × (d ≡ false)
+none_refused true b c d e = absurd (omega (arith, e))
+none_refused false true c d e = absurd (omega (arith, e))
+none_refused false false true d e = absurd (omega (arith, e))
+none_refused false false false true e = absurd (omega (arith, e))
+none_refused false false false false e = (refl, refl, refl, refl)
 
 pub below : (number : ℕ) (b : Bool) → b ≡ false → number ≤ 4294967295 → not b && eqb number 4294967295 ≡ false → number < 4294967295
-below number true k le e = absurd (true-false k)
-  where
-    true-false : true ≡ false → ⊥
-    true-false h = eqb-false 0 0 h refl
+below number true k le e = absurd (true≢false k)
 below number false k le e = omega (arith, eqb-false number 4294967295 e)
 
 pub opens : (s : Service) (kind device detail : ℕ) (r : Records) → Opens s kind device detail →
@@ -235,7 +234,7 @@ follows s kind device detail r l h o =
     let g = s.registration in
     let e = event_of kind detail in
     let t = process_of g (remember s.memory.state no_notices) device e r in
-    let nb : s.number < 4294967295 = below s.number (eqb kind 5) o.from_port h.number (last_not_refused (not_registered g.ports g.chargers kind device) (unknown_event kind detail) (is_open s.phase) (numbers_used kind s.number) o.accepted) in
+    let nb : s.number < 4294967295 = below s.number (eqb kind 5) o.from_port h.number (none_refused (not_registered g.ports g.chargers kind device) (unknown_event kind detail) (is_open s.phase) (numbers_used kind s.number) o.accepted).3 in
     let is : stands_for g t ≡ event_at s kind device detail r = opened g s.memory.state device e r in
     let bound : AtMost (3 + 4 * g.chargers) (event_at s kind device detail r) = event_bound g device e s.memory.state r in
     let z : 0 + length (orders_by (event_at s kind device detail r) l) ≡ length (orders_by (event_at s kind device detail r) l) = omega arith in

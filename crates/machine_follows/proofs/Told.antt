@@ -38,10 +38,10 @@ told_unconstrained u n h =
 
 -- at most one of each kind, so at most four
 
-provider_one : (p : ProviderNotice) → length (of_provider p) ≤ 1
-provider_one ProviderNotice.None = omega arith
-provider_one (ProviderNotice.Disconnected p) = omega arith
-provider_one (ProviderNotice.Connected p c) = omega arith
+provider_one : (p : Option ProviderNotice) → length (of_provider p) ≤ 1
+provider_one None = omega arith
+provider_one (Some (ProviderNotice.Disconnected p)) = omega arith
+provider_one (Some (ProviderNotice.Connected p c)) = omega arith
 
 disconnected_one : (d : Option Disconnected) → length (of_disconnected d) ≤ 1
 disconnected_one None = omega arith

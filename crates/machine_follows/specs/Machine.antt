@@ -23,10 +23,10 @@ use Rattle.machine_state.specs.declared.phase.Turn.{Turn}
 
 -- the notices in their order
 
-abbrev pub of_provider : ProviderNotice → List Event
-of_provider ProviderNotice.None = []
-of_provider (ProviderNotice.Disconnected p) = Event.ProviderDisconnected p ∷ []
-of_provider (ProviderNotice.Connected p c) = Event.ProviderConnected p c ∷ []
+abbrev pub of_provider : Option ProviderNotice → List Event
+of_provider None = []
+of_provider (Some (ProviderNotice.Disconnected p)) = Event.ProviderDisconnected p ∷ []
+of_provider (Some (ProviderNotice.Connected p c)) = Event.ProviderConnected p c ∷ []
 
 abbrev pub of_disconnected : Option Disconnected → List Event
 of_disconnected None = []

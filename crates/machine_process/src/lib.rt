@@ -1,5 +1,5 @@
 // An event from its port to its close: the provider's steps (provider.rs), what an event does (service/mod.rs), and what an answer
-// to its open order leads to.
+// to its open order leads to. What is present goes beside the memory, as in machine_update: it is handed on as it is, and each step has another memory.
 #![tactic(auto)]
 
 ghost use Rattle.std.specs.Prelude.{◌≡◌};
@@ -7,7 +7,7 @@ ghost use Rattle.machine_process.specs.Process.{request_of, connect_provider_of,
 
 use abstract_policy::order::Order;
 use interface_display::AvailableConsumer;
-use machine_state::memory::{Memory, ProviderNotice};
+use machine_state::memory::{Disconnected, Memory, ProviderNotice};
 use machine_state::phase::{Leaver, Phase, Stage, Turn, outcome};
 use machine_update::{Present, Switch, close, connecting};
 use power_policy_interface::capability::{
@@ -29,10 +29,8 @@ fn grant(present: Present, memory: Memory, requester: u8, request: ProviderPower
     } = present;
     let total = total_with_request(records.psus, registration.ports, requester, request);
     let power = power_state(registration.config, total);
-    let set = Memory {
-        state: memory.state.with_power_state(power),
-        ..memory
-    };
+    let mut set = memory;
+    set.state.current_provider_state = power;
     match records.psu(requester).can_connect_provider() {
         Ok(()) => Turn {
             phase: Phase::Providing(requester, target_power(registration.config, power, request)),
@@ -53,25 +51,19 @@ fn connect_provider(present: Present, memory: Memory, requester: u8) -> Turn
 }
 
 // After a provider is connected: tracked if there is room, and the notice anyway.
-fn post_provider_connected(memory: Memory, port: u8, target: ProviderPowerCapability) -> Memory
+fn post_provider_connected(mut memory: Memory, port: u8, target: ProviderPowerCapability) -> Memory
     ensures { result ≡ post_provider_of memory port target }
 {
-    let mut providers = memory.state.connected_providers;
-    let _ = providers.insert(port);
-    Memory {
-        state: memory.state.with_providers(providers),
-        notices: memory
-            .notices
-            .tell_provider(ProviderNotice::Connected(port, target)),
-    }
+    let _ = memory.state.connected_providers.insert(port);
+    memory.notices.provider = Some(ProviderNotice::Connected(port, target));
+    memory
 }
 
 // When a provider is removed: untracked, the power state computed anew, and a notice. An untracked port changes nothing.
-fn post_provider_removed(present: Present, memory: Memory, port: u8) -> Memory
+fn post_provider_removed(present: Present, mut memory: Memory, port: u8) -> Memory
     ensures { result ≡ remove_provider_of present.registration memory port present.records }
 {
-    let mut providers = memory.state.connected_providers;
-    if !providers.remove(port) {
+    if !memory.state.connected_providers.remove(port) {
         return memory;
     }
     let Present {
@@ -79,18 +71,12 @@ fn post_provider_removed(present: Present, memory: Memory, port: u8) -> Memory
         records,
     } = present;
     let total = compute_total_provider_power_mw(records.psus, registration.ports);
-    Memory {
-        state: memory
-            .state
-            .with_providers(providers)
-            .with_power_state(power_state(registration.config, total)),
-        notices: memory
-            .notices
-            .tell_provider(ProviderNotice::Disconnected(port)),
-    }
+    memory.state.current_provider_state = power_state(registration.config, total);
+    memory.notices.provider = Some(ProviderNotice::Disconnected(port));
+    memory
 }
 
-// A port no longer provides or consumes.
+// A port no longer provides or consumes. It need not be the consumer's, and so port and reason are no Disconnected.
 fn depart(present: Present, memory: Memory, port: u8, flags: DisconnectFlags) -> Turn
     ensures { result ≡ depart_of present.registration memory port flags present.records }
 {
@@ -139,10 +125,8 @@ fn next_from(leaver: Leaver) -> u8
 fn settle(memory: Memory, new: AvailableConsumer) -> Turn
     ensures { result ≡ settle_of memory new }
 {
-    let connected = Memory {
-        state: memory.state.with_consumer(Some(new)),
-        ..memory
-    };
+    let mut connected = memory;
+    connected.state.current_consumer_state = Some(new);
     connecting(Stage::Settling, new, connected)
 }
 
@@ -165,7 +149,9 @@ fn after_order(present: Present, phase: Phase, memory: Memory) -> Turn
 {
     match phase {
         Phase::Closed(answer) => close(answer, memory),
-        Phase::Leaving(i, port, flags) => present.leave_from(memory, next_charger(i), port, flags),
+        Phase::Leaving(i, port, flags) => {
+            present.leave_from(memory, next_charger(i), Disconnected { port, flags })
+        }
         Phase::Switching(leaver, old, flags, new) => {
             present.switch_from(
                 memory,

@@ -17,12 +17,22 @@ use Rattle.machine_state.specs.declared.phase.Phase.{Phase}
 use Rattle.machine_service.specs.Refusals.{is_open}
 use Rattle.machine_service.specs.declared.Service.{Service}
 
+-- a notice that is told comes last in the list
+abbrev pub push_told : display.Notices → Option Event → display.Notices
+push_told l None = l
+push_told l (Some e) = pushed l e
+
+-- what is told of a provider
+abbrev pub provider_event : ProviderNotice → Event
+provider_event (ProviderNotice.Disconnected p) = Event.ProviderDisconnected p
+provider_event (ProviderNotice.Connected p c) = Event.ProviderConnected p c
+
 -- the notices in their order
 
-abbrev pub push_provider : display.Notices → ProviderNotice → display.Notices
-push_provider l ProviderNotice.None = l
-push_provider l (ProviderNotice.Disconnected p) = pushed l (Event.ProviderDisconnected p)
-push_provider l (ProviderNotice.Connected p c) = pushed l (Event.ProviderConnected p c)
+abbrev pub push_provider : display.Notices → Option ProviderNotice → display.Notices
+push_provider l None = l
+push_provider l (Some (ProviderNotice.Disconnected p)) = pushed l (Event.ProviderDisconnected p)
+push_provider l (Some (ProviderNotice.Connected p c)) = pushed l (Event.ProviderConnected p c)
 
 abbrev pub push_disconnected : display.Notices → Option Disconnected → display.Notices
 push_disconnected l None = l
@@ -48,9 +58,11 @@ answer_byte_of (Phase.Switching l old f new) = 0
 answer_byte_of (Phase.Connecting s new) = 0
 answer_byte_of (Phase.Providing p c) = 0
 
+abbrev pub packet_with : Service → ℕ → EventPacket
+packet_with s a = record { number = s.number; answer = a; orders = s.orders; notices = notices_of s.memory.notices }
+
 abbrev pub packet_of : Service → EventPacket
-packet_of s =
-    record { number = s.number; answer = answer_byte_of s.phase; orders = s.orders; notices = notices_of s.memory.notices }
+packet_of s = packet_with s (answer_byte_of s.phase)
 
 abbrev pub picture_of : Service → Picture
 picture_of s = record { number = s.number; display = display_of s.memory.state }

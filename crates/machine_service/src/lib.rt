@@ -7,22 +7,21 @@ pub mod send;
 ghost use Rattle.std.specs.Prelude.{◌≡◌, ◌<◌};
 ghost use Rattle.power_policy_interface.specs.Limits.{largest};
 ghost use Rattle.power_policy_interface.specs.Refusal.{numbered};
-ghost use Rattle.abstract_policy.specs.Given.{flags_of, event_of, result_of};
+ghost use Rattle.machine_update.specs.Update.{closed};
 ghost use Rattle.machine_service.specs.Refusals.{is_open};
-ghost use Rattle.machine_service.specs.Service.{fresh_service, start_of, increment, answer_in, accepted, closed_by, ordered_by, moved, cleared_of, opened_of, open_of, answered_by, answer_of, stepped_by};
+ghost use Rattle.machine_service.specs.Service.{fresh_service, start_of, increment, accepted, closed_by, ordered_by, moved, cleared_of, opened_of, open_of, answered_by, answer_of, stepped_by};
 
-use crate::refusals::answer_refusal;
+use crate::refusals::{Opening, answer_refusal};
 use abstract_policy::order::Order;
 use abstract_policy::outcome::Step;
 use abstract_policy::state::{InternalState, Records, Registration};
 use machine_process::{answered, process_psu_event};
 use machine_state::memory::{Memory, Notices};
-use machine_state::phase::{Phase, Turn};
+use machine_state::phase::{Phase, Stand, Turn};
 use machine_update::Present;
-use power_policy_interface::capability::DisconnectFlags;
 use power_policy_interface::limits::{MAX_CHARGERS, MAX_PORTS};
 use power_policy_interface::psu;
-use power_policy_interface::psu::event::{Event, EventData};
+use power_policy_interface::psu::event::Event;
 use power_policy_interface::refusal::Refusal;
 use power_policy_service::config::Config;
 
@@ -81,49 +80,6 @@ pub fn start(config: Option<Config>, ports: u32, chargers: u32) -> Result<Servic
     Ok(fresh(config, ports as u8, chargers as u8))
 }
 
-// The reason of a Disconnected event; one that is not known is turned back before.
-fn flags_from(detail: u32) -> DisconnectFlags
-    ensures { result ≡ flags_of detail }
-{
-    u8::try_from(detail)
-        .ok()
-        .and_then(|b| DisconnectFlags::try_from(b).ok())
-        .unwrap_or_default()
-}
-
-// The event of a kind; a kind that is not known is turned back before.
-fn event_from(kind: u32, detail: u32) -> EventData
-    ensures { result ≡ event_of kind detail }
-{
-    match kind {
-        1 => EventData::UpdatedConsumerCapability,
-        2 => EventData::RequestedProviderCapability,
-        3 => EventData::Disconnected(flags_from(detail)),
-        4 => EventData::Detached,
-        _ => EventData::Attached,
-    }
-}
-
-// The answer to an order; one that is not known is turned back before.
-fn result_from(answer: u32) -> Result<(), psu::Error>
-    ensures { result ≡ result_of answer }
-{
-    u8::try_from(answer)
-        .ok()
-        .and_then(psu::answer_from)
-        .unwrap_or(Ok(()))
-}
-
-// How a phase with no order closed.
-pub fn answer_in(phase: Phase) -> Result<(), psu::Error>
-    ensures { result ≡ answer_in phase }
-{
-    match phase {
-        Phase::Closed(answer) => answer,
-        _ => Ok(()),
-    }
-}
-
 // One order more; no event gives 255.
 fn one_more(orders: u8) -> u8
     ensures { result ≡ increment 255 orders }
@@ -166,17 +122,17 @@ impl Service {
         }
     }
 
-    // The event is closed after so many orders, which gives it its number.
-    fn closed(self, orders: u8, turn: Turn) -> Stepped
-        ensures { accepted result ≡ closed_by self.registration self.number orders turn }
+    // The event is closed with this answer after so many orders, which gives it its number.
+    fn closed(self, orders: u8, memory: Memory, answer: Result<(), psu::Error>) -> Stepped
+        ensures { accepted result ≡ closed_by self.registration self.number orders (closed answer memory) }
     {
         Stepped {
-            step: Step::Closed(answer_in(turn.phase), orders),
+            step: Step::Closed(answer, orders),
             service: Service {
                 number: next_number(self.number),
                 orders,
-                memory: turn.memory,
-                phase: turn.phase,
+                memory,
+                phase: Phase::Closed(answer),
                 ..self
             },
         }
@@ -201,9 +157,9 @@ impl Service {
     fn moved(self, orders: u8, turn: Turn) -> Stepped
         ensures { accepted result ≡ moved self.registration self.number orders turn }
     {
-        match turn.phase.order() {
-            None => self.closed(orders, turn),
-            Some(order) => self.ordered(orders, turn, order),
+        match turn.phase.stand() {
+            Stand::Closed(answer) => self.closed(orders, turn.memory, answer),
+            Stand::Order(order) => self.ordered(orders, turn, order),
         }
     }
 
@@ -215,7 +171,7 @@ impl Service {
         self.moved(0, turn)
     }
 
-    // An event of a kind from a port or a charger. A charger's event is accepted and changes nothing.
+    // An event of a kind from a port or a charger. A charger's event is accepted and changes nothing. Numbers, here and in `answer`, as C gives them.
     pub fn open(
         self,
         kind: u32,
@@ -225,18 +181,13 @@ impl Service {
     ) -> Result<Stepped, Refusal>
         ensures { stepped_by self result ≡ open_of self kind device detail records }
     {
-        self.open_refusal(kind, device, detail)?;
-        if kind == 5 {
-            return Ok(Stepped {
+        match self.open_refusal(kind, device, detail)? {
+            Opening::Psu(event) => Ok(self.opened(event, records)),
+            Opening::Charger => Ok(Stepped {
                 step: Step::Closed(Ok(()), 0),
                 service: self,
-            });
+            }),
         }
-        let event = Event {
-            port: device as u8,
-            event: event_from(kind, detail),
-        };
-        Ok(self.opened(event, records))
     }
 
     // An answer to an order.
@@ -252,7 +203,7 @@ impl Service {
     pub fn answer(self, answer: u32, records: Records) -> Result<Stepped, Refusal>
         ensures { stepped_by self result ≡ answer_of self answer records }
     {
-        let order = answer_refusal(self.phase.order(), answer)?;
-        Ok(self.answered(order, result_from(answer), records))
+        let (order, result) = answer_refusal(self.phase.order(), answer)?;
+        Ok(self.answered(order, result, records))
     }
 }

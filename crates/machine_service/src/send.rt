@@ -1,49 +1,50 @@
 // What the service has for the desk: the packet of the event closed last, and the full picture.
 ghost use Rattle.std.specs.Prelude.{◌≡◌};
 ghost use Rattle.power_policy_interface.specs.Refusal.{numbered};
-ghost use Rattle.machine_service.specs.Send.{push_provider, push_disconnected, push_connected, push_unconstrained, notices_of, packet_of, picture_of, send_packet, send_picture};
+ghost use Rattle.power_policy_interface.specs.declared.service.event.Event.{Event};
+ghost use Rattle.power_policy_interface.specs.Psu.{answer_byte};
+ghost use Rattle.machine_service.specs.Send.{push_told, provider_event, notices_of, packet_with, picture_of, send_packet, send_picture};
 
-use crate::{Service, answer_in};
+use crate::Service;
 use interface_display::AvailableConsumer;
 use interface_display::notices::Notices;
 use interface_display::packet::{EventPacket, Picture};
 use machine_state::memory::{Disconnected, ProviderNotice};
+use machine_state::phase::Stand;
 use power_policy_interface::psu;
 use power_policy_interface::refusal::Refusal;
-use power_policy_interface::service::UnconstrainedState;
 use power_policy_interface::service::event::Event;
 
-fn push_provider(list: &mut Notices, notice: ProviderNotice)
-    ensures { list.new ≡ push_provider list.old notice }
+// What is told of a provider.
+fn provider_event(notice: ProviderNotice) -> Event
+    ensures { result ≡ provider_event notice }
 {
     match notice {
-        ProviderNotice::None => {}
-        ProviderNotice::Disconnected(port) => list.push(Event::ProviderDisconnected(port)),
-        ProviderNotice::Connected(port, c) => list.push(Event::ProviderConnected(port, c)),
+        ProviderNotice::Disconnected(port) => Event::ProviderDisconnected(port),
+        ProviderNotice::Connected(port, c) => Event::ProviderConnected(port, c),
     }
 }
 
-fn push_disconnected(list: &mut Notices, notice: Option<Disconnected>)
-    ensures { list.new ≡ push_disconnected list.old notice }
+// What is told of the consumer that is disconnected. Here and below a line each, of two types: a trait over them would take more.
+fn disconnected_event(d: Disconnected) -> Event
+    ensures { result ≡ Event.ConsumerDisconnected d.port d.flags }
 {
-    if let Some(d) = notice {
-        list.push(Event::ConsumerDisconnected(d.port, d.flags));
-    }
+    Event::ConsumerDisconnected(d.port, d.flags)
 }
 
-fn push_connected(list: &mut Notices, notice: Option<AvailableConsumer>)
-    ensures { list.new ≡ push_connected list.old notice }
+// What is told of the consumer that is connected.
+fn connected_event(c: AvailableConsumer) -> Event
+    ensures { result ≡ Event.ConsumerConnected c.psu c.consumer_power_capability }
 {
-    if let Some(c) = notice {
-        list.push(Event::ConsumerConnected(c.psu, c.consumer_power_capability));
-    }
+    Event::ConsumerConnected(c.psu, c.consumer_power_capability)
 }
 
-fn push_unconstrained(list: &mut Notices, notice: Option<UnconstrainedState>)
-    ensures { list.new ≡ push_unconstrained list.old notice }
+// A notice that is told comes last in the list.
+fn push_told(list: &mut Notices, notice: Option<Event>)
+    ensures { list.new ≡ push_told list.old notice }
 {
-    if let Some(u) = notice {
-        list.push(Event::Unconstrained(u));
+    if let Some(event) = notice {
+        list.push(event);
     }
 }
 
@@ -52,19 +53,20 @@ pub fn notices_of(notices: machine_state::memory::Notices) -> Notices
     ensures { result ≡ notices_of notices }
 {
     let mut list = Notices::new();
-    push_provider(&mut list, notices.provider);
-    push_disconnected(&mut list, notices.disconnected);
-    push_connected(&mut list, notices.connected);
-    push_unconstrained(&mut list, notices.unconstrained);
+    push_told(&mut list, notices.provider.map(provider_event));
+    push_told(&mut list, notices.disconnected.map(disconnected_event));
+    push_told(&mut list, notices.connected.map(connected_event));
+    push_told(&mut list, notices.unconstrained.map(Event::Unconstrained));
     list
 }
 
-fn packet_of(service: Service) -> EventPacket
-    ensures { result ≡ packet_of service }
+// The packet with this answer.
+fn packet_of(service: Service, answer: Result<(), psu::Error>) -> EventPacket
+    ensures { result ≡ packet_with service (answer_byte answer) }
 {
     EventPacket {
         number: service.number,
-        answer: psu::answer_byte(answer_in(service.phase)),
+        answer: psu::answer_byte(answer),
         orders: service.orders,
         notices: notices_of(service.memory.notices),
     }
@@ -74,13 +76,11 @@ fn packet_of(service: Service) -> EventPacket
 pub fn packet(service: Service) -> Result<EventPacket, Refusal>
     ensures { numbered result ≡ send_packet service }
 {
-    if service.is_open() {
-        return Err(Refusal::EventOpen);
+    match service.phase.stand() {
+        Stand::Order(_) => Err(Refusal::EventOpen),
+        Stand::Closed(_) if service.number == 0 => Err(Refusal::NoEvent),
+        Stand::Closed(answer) => Ok(packet_of(service, answer)),
     }
-    if service.number == 0 {
-        return Err(Refusal::NoEvent);
-    }
-    Ok(packet_of(service))
 }
 
 fn picture_of(service: Service) -> Picture

@@ -11,14 +11,14 @@ use Rattle.machine_state.specs.declared.memory.ProviderNotice.{ProviderNotice}
 
 -- the notices
 
-abbrev pub notices_with : ProviderNotice → Option Disconnected → Option AvailableConsumer → Option UnconstrainedState → Notices
+abbrev pub notices_with : Option ProviderNotice → Option Disconnected → Option AvailableConsumer → Option UnconstrainedState → Notices
 notices_with p d c u = record { provider = p; disconnected = d; connected = c; unconstrained = u }
 
 abbrev pub no_notices : Notices
-no_notices = notices_with ProviderNotice.None None None None
+no_notices = notices_with None None None None
 
 abbrev pub tell_provider : ProviderNotice → Notices → Notices
-tell_provider p n = notices_with p n.disconnected n.connected n.unconstrained
+tell_provider p n = notices_with (Some p) n.disconnected n.connected n.unconstrained
 
 abbrev pub tell_disconnected : ℕ → DisconnectFlags → Notices → Notices
 tell_disconnected p f n = notices_with n.provider (Some (record { port = p; flags = f })) n.connected n.unconstrained

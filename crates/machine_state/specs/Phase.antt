@@ -6,6 +6,7 @@ use Rattle.abstract_policy.specs.declared.order.Order.{Order}
 use Rattle.machine_state.specs.declared.phase.Leaver.{Leaver}
 use Rattle.machine_state.specs.declared.phase.Phase.{Phase}
 use Rattle.machine_state.specs.declared.phase.Stage.{Stage}
+use Rattle.machine_state.specs.declared.phase.Stand.{Stand}
 
 abbrev pub switch_order : Leaver → ℕ → Order
 switch_order Leaver.Psu p = Order.Disconnect p
@@ -24,6 +25,14 @@ order_of (Phase.Leaving i p f) = Some (Order.Detach i)
 order_of (Phase.Switching l p f n) = Some (switch_order l p)
 order_of (Phase.Connecting s n) = Some (connect_order s n)
 order_of (Phase.Providing p c) = Some (Order.ConnectProvider p c)
+
+-- the open order, or how the event closed
+abbrev pub stand_of : Phase → Stand
+stand_of (Phase.Closed r) = Stand.Closed r
+stand_of (Phase.Leaving i p f) = Stand.Order (Order.Detach i)
+stand_of (Phase.Switching l p f n) = Stand.Order (switch_order l p)
+stand_of (Phase.Connecting s n) = Stand.Order (connect_order s n)
+stand_of (Phase.Providing p c) = Stand.Order (Order.ConnectProvider p c)
 
 -- a charger's error is Charger, and a wait does not fail
 abbrev pub failed : Order → Error → Result (Unit {0}) Error

@@ -1,6 +1,6 @@
 // What an event has come to so far, the state and its notices; and which charger is next.
 ghost use Rattle.std.specs.Prelude.{◌≡◌, ◌-◌};
-ghost use Rattle.machine_state.specs.Memory.{no_notices, tell_provider, tell_disconnected, tell_connected, tell_unconstrained, next_powered, if_below};
+ghost use Rattle.machine_state.specs.Memory.{no_notices, next_powered, if_below};
 
 use abstract_policy::state::{InternalState, Records};
 use interface_display::AvailableConsumer;
@@ -10,7 +10,6 @@ use power_policy_interface::service::UnconstrainedState;
 // What an event tells of a provider.
 #[derive(Clone, Copy)]
 pub enum ProviderNotice {
-    None,
     Disconnected(u8),
     Connected(u8, ProviderPowerCapability),
 }
@@ -25,7 +24,7 @@ pub struct Disconnected {
 // The notices of an event: at most one of each kind, and always in this order.
 #[derive(Clone, Copy)]
 pub struct Notices {
-    pub provider: ProviderNotice,
+    pub provider: Option<ProviderNotice>,
     pub disconnected: Option<Disconnected>,
     pub connected: Option<AvailableConsumer>,
     pub unconstrained: Option<UnconstrainedState>,
@@ -44,44 +43,10 @@ impl Notices {
         ensures { result ≡ no_notices }
     {
         Notices {
-            provider: ProviderNotice::None,
+            provider: None,
             disconnected: None,
             connected: None,
             unconstrained: None,
-        }
-    }
-
-    // One function for each notice, in its place: which place it sets is no parameter.
-    pub fn tell_provider(self, provider: ProviderNotice) -> Notices
-        ensures { result ≡ tell_provider provider self }
-    {
-        Notices { provider, ..self }
-    }
-
-    pub fn tell_disconnected(self, port: u8, flags: DisconnectFlags) -> Notices
-        ensures { result ≡ tell_disconnected port flags self }
-    {
-        Notices {
-            disconnected: Some(Disconnected { port, flags }),
-            ..self
-        }
-    }
-
-    pub fn tell_connected(self, new: AvailableConsumer) -> Notices
-        ensures { result ≡ tell_connected new self }
-    {
-        Notices {
-            connected: Some(new),
-            ..self
-        }
-    }
-
-    pub fn tell_unconstrained(self, figures: UnconstrainedState) -> Notices
-        ensures { result ≡ tell_unconstrained figures self }
-    {
-        Notices {
-            unconstrained: Some(figures),
-            ..self
         }
     }
 }
@@ -90,10 +55,5 @@ impl Notices {
 pub fn next_powered(records: Records, count: u8, from: u8) -> Option<u8>
     ensures { result ≡ if_below count (next_powered records (count - from) from) }
 {
-    for i in from..count {
-        if !records.unpowered(i) {
-            return Some(i);
-        }
-    }
-    None
+    (from..count).find(|&i| !records.unpowered(i))
 }

@@ -1,6 +1,6 @@
 // Where an event stands: closed with its answer, or at an order with what is left of it as data.
 ghost use Rattle.std.specs.Prelude.{◌≡◌};
-ghost use Rattle.machine_state.specs.Phase.{order_of, switch_order, connect_order, outcome_of};
+ghost use Rattle.machine_state.specs.Phase.{stand_of, order_of, switch_order, connect_order, outcome_of};
 
 use crate::memory::Memory;
 use abstract_policy::order::Order;
@@ -30,7 +30,7 @@ pub enum Stage {
     Attaching(u8),
 }
 
-// What is left of an event after its open order, or how it closed.
+// What is left of an event after its open order, or how it closed. Data and no closure: the image holds it between C calls.
 #[derive(Clone, Copy)]
 pub enum Phase {
     // Closed with this answer.
@@ -43,6 +43,13 @@ pub enum Phase {
     Connecting(Stage, AvailableConsumer),
     // This port is being connected as provider.
     Providing(u8, ProviderPowerCapability),
+}
+
+// Where an event stands: at its open order, or closed with this answer.
+#[derive(Clone, Copy)]
+pub enum Stand {
+    Order(Order),
+    Closed(Result<(), psu::Error>),
 }
 
 // What an answer to the order comes to: a charger's error is Charger, and a wait does not fail.
@@ -87,15 +94,26 @@ impl Stage {
 }
 
 impl Phase {
+    // The open order, or how the event closed.
+    pub fn stand(self) -> Stand
+        ensures { result ≡ stand_of self }
+    {
+        match self {
+            Phase::Closed(answer) => Stand::Closed(answer),
+            Phase::Leaving(i, _, _) => Stand::Order(Order::Detach(i)),
+            Phase::Switching(leaver, port, _, _) => Stand::Order(leaver.order(port)),
+            Phase::Connecting(stage, new) => Stand::Order(stage.order(new)),
+            Phase::Providing(port, c) => Stand::Order(Order::ConnectProvider(port, c)),
+        }
+    }
+
+    // The open order.
     pub fn order(self) -> Option<Order>
         ensures { result ≡ order_of self }
     {
-        match self {
-            Phase::Closed(_) => None,
-            Phase::Leaving(i, _, _) => Some(Order::Detach(i)),
-            Phase::Switching(leaver, port, _, _) => Some(leaver.order(port)),
-            Phase::Connecting(stage, new) => Some(stage.order(new)),
-            Phase::Providing(port, c) => Some(Order::ConnectProvider(port, c)),
+        match self.stand() {
+            Stand::Order(order) => Some(order),
+            Stand::Closed(_) => None,
         }
     }
 }

@@ -1,1 +1,2 @@
+mod Counted
 pub mod Same

@@ -7,7 +7,7 @@ ghost use Rattle.machine_update.specs.Update.{closed, at, updated_to, finish_upd
 
 use abstract_policy::state::{Records, Registration};
 use interface_display::AvailableConsumer;
-use machine_state::memory::{Memory, next_powered};
+use machine_state::memory::{Disconnected, Memory, next_powered};
 use machine_state::phase::{Leaver, Phase, Stage, Turn};
 use power_policy_interface::capability::{DisconnectFlags, DisconnectReason};
 use power_policy_interface::psu;
@@ -73,11 +73,9 @@ fn offers_unconstrained(s: psu::State) -> bool
 fn available(records: Records, ports: u8) -> u8
     ensures { result ≡ available_of records ports }
 {
-    let mut n: u8 = 0;
-    for i in 0..ports {
-        n += u8::from(offers_unconstrained(records.psu(i)));
-    }
-    n
+    (0..ports)
+        .filter(|&i| offers_unconstrained(records.psu(i)))
+        .count() as u8
 }
 
 // Whether the consumer draws unconstrained power.
@@ -88,16 +86,14 @@ fn consumer_flag(consumer: Option<AvailableConsumer>) -> bool
 }
 
 // Sets the unconstrained figures, with a notice, if either differs.
-fn set_unconstrained(new: UnconstrainedState, memory: Memory) -> Memory
+fn set_unconstrained(new: UnconstrainedState, mut memory: Memory) -> Memory
     ensures { result ≡ updated_to new memory }
 {
-    if new == memory.state.unconstrained {
-        return memory;
+    if new != memory.state.unconstrained {
+        memory.state.unconstrained = new;
+        memory.notices.unconstrained = Some(new);
     }
-    Memory {
-        state: memory.state.with_unconstrained(new),
-        notices: memory.notices.tell_unconstrained(new),
-    }
+    memory
 }
 
 fn is_connected_consumer(s: psu::PsuState) -> bool
@@ -106,14 +102,13 @@ fn is_connected_consumer(s: psu::PsuState) -> bool
     matches!(s, psu::PsuState::ConnectedConsumer(_))
 }
 
-// The consumer of this port is left, and there is none.
-fn left(memory: Memory, port: u8, flags: DisconnectFlags) -> Memory
-    ensures { result ≡ left_of memory port flags }
+// The consumer is left, and there is none.
+fn left(mut memory: Memory, consumer: Disconnected) -> Memory
+    ensures { result ≡ left_of memory consumer.port consumer.flags }
 {
-    Memory {
-        state: memory.state.with_consumer(None),
-        notices: memory.notices.tell_disconnected(port, flags),
-    }
+    memory.state.current_consumer_state = None;
+    memory.notices.disconnected = Some(consumer);
+    memory
 }
 
 pub fn connecting(stage: Stage, new: AvailableConsumer, memory: Memory) -> Turn
@@ -136,6 +131,8 @@ fn charger_stage(unpowered: bool, i: u8) -> Stage
     }
 }
 
+// Memory is a parameter of each step and no field: what is present stays as it is for the whole call, and each step has another memory, so that one value of
+// both would be made anew for every step.
 impl Present {
     // The last step of an update, which closes the event without error (update_unconstrained_state).
     pub fn finish_update(self, memory: Memory) -> Turn
@@ -159,7 +156,7 @@ impl Present {
     }
 
     // Detaches the powered chargers from one on, then connects the new consumer.
-    pub fn switch_from(self, memory: Memory, from: u8, switch: Switch) -> Turn
+    pub fn switch_from(self, mut memory: Memory, from: u8, switch: Switch) -> Turn
         ensures { result ≡ switch_of self.registration memory from switch.old switch.flags switch.to self.records }
     {
         match next_powered(self.records, self.registration.chargers, from) {
@@ -168,10 +165,11 @@ impl Present {
                 memory,
             },
             None => {
-                let notices = memory
-                    .notices
-                    .tell_disconnected(switch.old, switch.reason());
-                self.connect_psu(Memory { notices, ..memory }, switch.to)
+                memory.notices.disconnected = Some(Disconnected {
+                    port: switch.old,
+                    flags: switch.reason(),
+                });
+                self.connect_psu(memory, switch.to)
             }
         }
     }
@@ -180,10 +178,8 @@ impl Present {
     fn disconnect_current(self, memory: Memory, switch: Switch) -> Turn
         ensures { result ≡ disconnect_of self.registration memory switch.old switch.flags switch.to self.records }
     {
-        let cleared = Memory {
-            state: memory.state.with_consumer(None),
-            ..memory
-        };
+        let mut cleared = memory;
+        cleared.state.current_consumer_state = None;
         if is_connected_consumer(self.records.psu(switch.old).psu_state) {
             return Turn {
                 phase: switch.phase(Leaver::Psu),
@@ -223,15 +219,15 @@ impl Present {
     }
 
     // Detaches the powered chargers from one on, then no consumer is left.
-    pub fn leave_from(self, memory: Memory, from: u8, port: u8, flags: DisconnectFlags) -> Turn
-        ensures { result ≡ leave_of self.registration memory from port flags self.records }
+    pub fn leave_from(self, memory: Memory, from: u8, consumer: Disconnected) -> Turn
+        ensures { result ≡ leave_of self.registration memory from consumer.port consumer.flags self.records }
     {
         match next_powered(self.records, self.registration.chargers, from) {
             Some(next) => Turn {
-                phase: Phase::Leaving(next, port, flags),
+                phase: Phase::Leaving(next, consumer.port, consumer.flags),
                 memory,
             },
-            None => self.finish_update(left(memory, port, flags)),
+            None => self.finish_update(left(memory, consumer)),
         }
     }
 
@@ -242,10 +238,8 @@ impl Present {
         if i < self.registration.chargers {
             return connecting(charger_stage(self.records.unpowered(i), i), new, memory);
         }
-        let told = Memory {
-            notices: memory.notices.tell_connected(new),
-            ..memory
-        };
+        let mut told = memory;
+        told.notices.connected = Some(new);
         self.finish_update(told)
     }
 
@@ -268,7 +262,7 @@ impl Present {
         match (self.choose(memory), memory.state.current_consumer_state) {
             (Some(new), _) => self.connect_new_consumer(memory, new, flags),
             (None, None) => self.finish_update(memory),
-            (None, Some(c)) => self.leave_from(memory, 0, c.psu, flags),
+            (None, Some(c)) => self.leave_from(memory, 0, Disconnected { port: c.psu, flags }),
         }
     }
 }

@@ -1,5 +1,4 @@
 pub mod Bits
-pub mod Conjunction
 pub mod KindBits
 pub mod Numbered
 pub mod OneByte

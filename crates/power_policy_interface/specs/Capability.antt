@@ -123,6 +123,20 @@ reasons =
     ∷ given (Some DisconnectReason.Reset)
     ∷ []
 
+-- 0 and above 6 are no reason's
+abbrev pub reason_from : ℕ → Option DisconnectReason
+reason_from b =
+    slice_index_or (
+    None
+    ∷ Some DisconnectReason.Detached
+    ∷ Some DisconnectReason.Switching
+    ∷ Some DisconnectReason.AutoRenegotiation
+    ∷ Some DisconnectReason.ManualRenegotiation
+    ∷ Some DisconnectReason.RoleSwap
+    ∷ Some DisconnectReason.Reset
+    ∷ []
+    ) b None
+
 -- above 6 is refused (REF-24, REF-32)
 abbrev pub disconnect_from : ℕ → Option DisconnectFlags
 disconnect_from b = slice_index_or reasons b None

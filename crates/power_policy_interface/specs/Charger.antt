@@ -1,5 +1,5 @@
 -- LEA-3: what the functions of charger.rt and charger/event.rt compute, line by line as charger/mod.rs has it.
-use Rattle.std.specs.Prelude.{ℕ, Bool, true, false, [], ◌∷◌, slice_index_or, Err, None, Ok, Option, Result, Some}
+use Rattle.std.specs.Prelude.{ℕ, Bool, true, false, List, [], ◌∷◌, slice_index_or, Err, None, Ok, Option, Result, Some}
 use Rattle.power_policy_interface.specs.declared.capability.ConsumerPowerCapability.{ConsumerPowerCapability}
 use Rattle.power_policy_interface.specs.declared.charger.event.PsuState.{PsuState}
 use Rattle.power_policy_interface.specs.declared.charger.ChargerError.{ChargerError}
@@ -27,6 +27,18 @@ internal_number InternalState.Unpowered = 0
 internal_number (InternalState.Powered PoweredSubstate.Init) = 1
 internal_number (InternalState.Powered PoweredSubstate.PsuAttached) = 2
 internal_number (InternalState.Powered PoweredSubstate.PsuDetached) = 3
+
+abbrev pub internals : List (Option InternalState)
+internals =
+    Some InternalState.Unpowered
+    ∷ Some (InternalState.Powered PoweredSubstate.Init)
+    ∷ Some (InternalState.Powered PoweredSubstate.PsuAttached)
+    ∷ Some (InternalState.Powered PoweredSubstate.PsuDetached)
+    ∷ []
+
+-- a state above 3 is refused
+abbrev pub internal_from : ℕ → Option InternalState
+internal_from b = slice_index_or internals b None
 
 abbrev pub is_unpowered : InternalState → Bool
 is_unpowered InternalState.Unpowered = true

@@ -21,6 +21,18 @@ kind_number StateKind.Idle = 1
 kind_number StateKind.ConnectedProvider = 2
 kind_number StateKind.ConnectedConsumer = 3
 
+abbrev pub kinds : List (Option StateKind)
+kinds =
+    Some StateKind.Detached
+    ∷ Some StateKind.Idle
+    ∷ Some StateKind.ConnectedProvider
+    ∷ Some StateKind.ConnectedConsumer
+    ∷ []
+
+-- a state above 3 is refused
+abbrev pub kind_from : ℕ → Option StateKind
+kind_from b = slice_index_or kinds b None
+
 abbrev pub kind_of : PsuState → StateKind
 kind_of PsuState.Idle = StateKind.Idle
 kind_of (PsuState.ConnectedProvider c) = StateKind.ConnectedProvider
@@ -92,6 +104,25 @@ actual_byte (Some m) = kind_number m.actual
 abbrev pub answer_byte : Result (Unit {0}) Error → ℕ
 answer_byte (Ok tt) = 0
 answer_byte (Err e) = error_byte e
+
+abbrev pub errors : List (Option Error)
+errors =
+    None
+    ∷ Some Error.InvalidDevice
+    ∷ Some Error.CannotProvide
+    ∷ Some Error.CannotConsume
+    ∷ Some (Error.InvalidState None)
+    ∷ Some Error.InvalidResponse
+    ∷ Some Error.Busy
+    ∷ Some Error.Timeout
+    ∷ Some Error.Bus
+    ∷ Some Error.Charger
+    ∷ Some Error.Failed
+    ∷ []
+
+-- 0 and above 10 are no error's
+abbrev pub error_from : ℕ → Option Error
+error_from b = slice_index_or errors b None
 
 abbrev pub failed : Error → Option (Result (Unit {0}) Error)
 failed e = Some (Err e)

@@ -1,6 +1,6 @@
 // Power capability definitions and related flags (capability.rs).
 ghost use Rattle.std.specs.Prelude.{◌≡◌, ◌/◌, cond, false, nat_le, None, Some, ok_or};
-ghost use Rattle.power_policy_interface.specs.Capability.{max_power_mw, cmp_capability, psu_type_number, psu_type_from, consumer_flags_byte, provider_flags_byte, consumer_flags_from, provider_flags_from, same_capability, same_consumer, same_provider, same_option_provider, is_renegotiation, disconnect_byte, disconnect_from, reason_byte};
+ghost use Rattle.power_policy_interface.specs.Capability.{max_power_mw, cmp_capability, psu_type_number, psu_type_from, consumer_flags_byte, provider_flags_byte, consumer_flags_from, provider_flags_from, same_capability, same_consumer, same_provider, same_option_provider, is_renegotiation, disconnect_byte, disconnect_from, reason_byte, reason_from};
 
 use std::cmp::Ordering;
 
@@ -37,6 +37,7 @@ pub struct ConsumerPowerCapability {
     pub flags: ConsumerFlags,
 }
 
+// This impl and that of ProviderPowerCapability: `From` is implemented once for each type.
 impl From<PowerCapability> for ConsumerPowerCapability {
     ghost from_gives = { λ capability c. c ≡ record { capability = capability; flags = record { unconstrained_power = false; psu_type = None } } };
 
@@ -102,6 +103,7 @@ impl From<PsuType> for u8 {
 #[derive(Clone, Copy, PartialEq, Eq)]
 pub struct UnknownByte(pub u8);
 
+// `TryFrom` is implemented once for each type, here and in the other files.
 impl TryFrom<u8> for PsuType {
     type Error = UnknownByte;
 
@@ -121,14 +123,14 @@ impl TryFrom<u8> for PsuType {
     }
 }
 
-// The number in a flag byte, 0 for none.
-fn number_of(t: Option<PsuType>) -> u8
+// The number in a flag byte, 0 for none. A function: neither Option nor u8 is this crate's, so it can have no From here.
+pub fn number_of(t: Option<PsuType>) -> u8
     ensures { result ≡ psu_type_number t }
 {
     t.map_or(0, |t| u8::from(t))
 }
 
-// The type in a flag byte, bit 0 aside; refused for a number of no type.
+// The type in a flag byte, bit 0 aside; refused for a number of no type. 0 is none, and the rest is the TryFrom of PsuType.
 fn type_in(b: u8) -> Result<Option<PsuType>, UnknownByte>
     ensures { result ≡ cond (nat_le (b / 2) 6) (Ok (psu_type_from (b / 2))) (Err (record { 0 = b })) }
 {
@@ -237,6 +239,25 @@ impl From<DisconnectReason> for u8 {
     }
 }
 
+impl TryFrom<u8> for DisconnectReason {
+    type Error = UnknownByte;
+
+    ghost try_from_gives = { λ b r. r ≡ ok_or (reason_from b) (record { 0 = b }) };
+
+    // The reason of a byte; 0 is no reason's.
+    fn try_from(b: u8) -> Result<Self, UnknownByte> {
+        match b {
+            1 => Ok(DisconnectReason::Detached),
+            2 => Ok(DisconnectReason::Switching),
+            3 => Ok(DisconnectReason::AutoRenegotiation),
+            4 => Ok(DisconnectReason::ManualRenegotiation),
+            5 => Ok(DisconnectReason::RoleSwap),
+            6 => Ok(DisconnectReason::Reset),
+            _ => Err(UnknownByte(b)),
+        }
+    }
+}
+
 // Disconnection flags.
 #[derive(Clone, Copy, PartialEq, Eq, Default)]
 pub struct DisconnectFlags {
@@ -262,13 +283,7 @@ impl TryFrom<u8> for DisconnectFlags {
     fn try_from(b: u8) -> Result<Self, UnknownByte> {
         let reason = match b {
             0 => None,
-            1 => Some(DisconnectReason::Detached),
-            2 => Some(DisconnectReason::Switching),
-            3 => Some(DisconnectReason::AutoRenegotiation),
-            4 => Some(DisconnectReason::ManualRenegotiation),
-            5 => Some(DisconnectReason::RoleSwap),
-            6 => Some(DisconnectReason::Reset),
-            _ => return Err(UnknownByte(b)),
+            _ => Some(DisconnectReason::try_from(b)?),
         };
         Ok(DisconnectFlags { reason })
     }

@@ -2,10 +2,10 @@
 pub mod event;
 
 ghost use Rattle.power_policy_interface.specs.declared.psu.Error.{Error};
-ghost use Rattle.std.specs.Prelude.{◌≡◌};
-ghost use Rattle.power_policy_interface.specs.Charger.{internal_number, default_state, initialized_of, psu_state_change_of, timeout_of, ready_success_of, ready_failure_of, policy_attach_of, policy_detach_of, is_unpowered, substate_of};
+ghost use Rattle.std.specs.Prelude.{◌≡◌, ok_or};
+ghost use Rattle.power_policy_interface.specs.Charger.{internal_number, internal_from, initialized_of, psu_state_change_of, timeout_of, ready_success_of, ready_failure_of, policy_attach_of, policy_detach_of, is_unpowered, substate_of};
 
-use crate::capability::ConsumerPowerCapability;
+use crate::capability::{ConsumerPowerCapability, UnknownByte};
 use crate::charger::event::PsuState;
 use crate::psu::Error;
 
@@ -47,9 +47,10 @@ pub enum PoweredSubstate {
 }
 
 // Current state of the charger.
-#[derive(Clone, Copy, PartialEq, Eq)]
+#[derive(Clone, Copy, PartialEq, Eq, Default)]
 pub enum InternalState {
     // Device is unpowered.
+    #[default]
     Unpowered,
     // Device is powered.
     Powered(PoweredSubstate),
@@ -69,8 +70,25 @@ impl From<InternalState> for u8 {
     }
 }
 
+impl TryFrom<u8> for InternalState {
+    type Error = UnknownByte;
+
+    ghost try_from_gives = { λ b r. r ≡ ok_or (internal_from b) (record { 0 = b }) };
+
+    // The state of a record's state byte; refused for a byte above 3.
+    fn try_from(b: u8) -> Result<Self, UnknownByte> {
+        match b {
+            0 => Ok(InternalState::Unpowered),
+            1 => Ok(InternalState::Powered(PoweredSubstate::Init)),
+            2 => Ok(InternalState::Powered(PoweredSubstate::PsuAttached)),
+            3 => Ok(InternalState::Powered(PoweredSubstate::PsuDetached)),
+            _ => Err(UnknownByte(b)),
+        }
+    }
+}
+
 // State and cached capability of a charger.
-#[derive(Clone, Copy, PartialEq, Eq)]
+#[derive(Clone, Copy, PartialEq, Eq, Default)]
 pub struct State {
     // Charger device state.
     pub state: InternalState,
@@ -78,17 +96,7 @@ pub struct State {
     pub capability: Option<ConsumerPowerCapability>,
 }
 
-impl Default for State {
-    ghost is_default = { λ s. s ≡ default_state };
-
-    fn default() -> Self {
-        State {
-            state: InternalState::Unpowered,
-            capability: None,
-        }
-    }
-}
-
+// The Rust's methods, by their names.
 impl State {
     // Initialization completed: from Init to PsuAttached or PsuDetached; an error in any other state.
     pub fn on_initialized(&mut self, psu_state: PsuState) -> Result<(), ChargerError>

@@ -1,10 +1,10 @@
 // Device struct and methods (psu/mod.rs).
 pub mod event;
 
-ghost use Rattle.std.specs.Prelude.{◌≡◌};
-ghost use Rattle.power_policy_interface.specs.Psu.{kind_number, kind_of, with_kind, has_kind, detached_kind, idle_or_consumer, idle_or_provider, attached_kinds, expect_of, answer_byte, error_byte, mismatch_of, expected_byte, actual_byte, answer_from, default_state, attach_of, detach_of, disconnect_of, update_consumer_of, update_requested_of, can_connect_consumer_of, connect_consumer_of, can_connect_provider_of, connect_provider_of, connected_provider_of};
+ghost use Rattle.std.specs.Prelude.{◌≡◌, ok_or};
+ghost use Rattle.power_policy_interface.specs.Psu.{kind_number, kind_from, kind_of, with_kind, has_kind, detached_kind, idle_or_consumer, idle_or_provider, attached_kinds, expect_of, answer_byte, error_byte, error_from, mismatch_of, expected_byte, actual_byte, answer_from, attach_of, detach_of, disconnect_of, update_consumer_of, update_requested_of, can_connect_consumer_of, connect_consumer_of, can_connect_provider_of, connect_provider_of, connected_provider_of};
 
-use crate::capability::{ConsumerPowerCapability, ProviderPowerCapability};
+use crate::capability::{ConsumerPowerCapability, ProviderPowerCapability, UnknownByte};
 
 // Most basic device states.
 #[derive(Clone, Copy, PartialEq, Eq)]
@@ -28,6 +28,23 @@ impl From<StateKind> for u8 {
     }
 }
 
+impl TryFrom<u8> for StateKind {
+    type Error = UnknownByte;
+
+    ghost try_from_gives = { λ b r. r ≡ ok_or (kind_from b) (record { 0 = b }) };
+
+    // The kind of a state byte; refused for a byte above 3.
+    fn try_from(b: u8) -> Result<Self, UnknownByte> {
+        match b {
+            0 => Ok(StateKind::Detached),
+            1 => Ok(StateKind::Idle),
+            2 => Ok(StateKind::ConnectedProvider),
+            3 => Ok(StateKind::ConnectedConsumer),
+            _ => Err(UnknownByte(b)),
+        }
+    }
+}
+
 // A set of kinds: a byte with one bit per kind.
 #[derive(Clone, Copy, PartialEq, Eq)]
 pub struct Kinds(pub u8);
@@ -48,7 +65,7 @@ impl Kinds {
     }
 }
 
-// What an InvalidState of the transitions carries: the set of expected kinds and the actual one.
+// What an InvalidState of the transitions carries: the set of expected kinds, as the byte that the image and C have, and the actual one.
 #[derive(Clone, Copy, PartialEq, Eq)]
 pub struct Mismatch {
     pub expected: u8,
@@ -100,6 +117,29 @@ impl From<Error> for u8 {
     }
 }
 
+impl TryFrom<u8> for Error {
+    type Error = UnknownByte;
+
+    ghost try_from_gives = { λ b r. r ≡ ok_or (error_from b) (record { 0 = b }) };
+
+    // The error of an answer byte, with no states; 0 is no error's.
+    fn try_from(b: u8) -> Result<Self, UnknownByte> {
+        match b {
+            1 => Ok(Error::InvalidDevice),
+            2 => Ok(Error::CannotProvide),
+            3 => Ok(Error::CannotConsume),
+            4 => Ok(Error::InvalidState(None)),
+            5 => Ok(Error::InvalidResponse),
+            6 => Ok(Error::Busy),
+            7 => Ok(Error::Timeout),
+            8 => Ok(Error::Bus),
+            9 => Ok(Error::Charger),
+            10 => Ok(Error::Failed),
+            _ => Err(UnknownByte(b)),
+        }
+    }
+}
+
 impl Error {
     // The states that an InvalidState of a ported transition carries.
     pub fn mismatch(self) -> Option<Mismatch>
@@ -112,7 +152,7 @@ impl Error {
     }
 }
 
-// The expected states as a byte, 0 for none.
+// The expected states as a byte, 0 for none. A function, here and below: Option and Result are no types of this crate, so they can have no From here.
 pub fn expected(m: Option<Mismatch>) -> u8
     ensures { result ≡ expected_byte m }
 {
@@ -136,25 +176,14 @@ pub fn answer_byte(answer: Result<(), Error>) -> u8
     }
 }
 
-// The answer of a byte, none for a byte above 10.
+// The answer of a byte, none for a byte above 10. 0 is done, and the rest is the TryFrom of Error.
 pub fn answer_from(b: u8) -> Option<Result<(), Error>>
     ensures { result ≡ answer_from b }
 {
-    let e = match b {
-        0 => return Some(Ok(())),
-        1 => Error::InvalidDevice,
-        2 => Error::CannotProvide,
-        3 => Error::CannotConsume,
-        4 => Error::InvalidState(None),
-        5 => Error::InvalidResponse,
-        6 => Error::Busy,
-        7 => Error::Timeout,
-        8 => Error::Bus,
-        9 => Error::Charger,
-        10 => Error::Failed,
-        _ => return None,
-    };
-    Some(Err(e))
+    match b {
+        0 => Some(Ok(())),
+        _ => Some(Err(Error::try_from(b).ok()?)),
+    }
 }
 
 // Ok where the actual kind is one of the expected, else the error that says both.
@@ -171,6 +200,8 @@ fn expect(expected: Kinds, actual: StateKind) -> Result<(), Error>
         Err(Error::InvalidState(Some(mismatch)))
     }
 }
+
+// The sets that the transitions expect. A function for each: which kinds are in it is all that it says.
 
 fn detached() -> Kinds
     ensures { result.0 ≡ detached_kind }
@@ -201,7 +232,7 @@ fn attached() -> Kinds
 }
 
 // Current state of the power device.
-#[derive(Clone, Copy, PartialEq, Eq)]
+#[derive(Clone, Copy, PartialEq, Eq, Default)]
 pub enum PsuState {
     // Device is attached, but is not currently providing or consuming power.
     Idle,
@@ -210,6 +241,7 @@ pub enum PsuState {
     // Device is attached and is currently consuming power.
     ConnectedConsumer(ConsumerPowerCapability),
     // No device attached.
+    #[default]
     Detached,
 }
 
@@ -229,7 +261,7 @@ impl PsuState {
 
 // Per-device state for the power policy. The transitions always enter the desired state, and some still return an error: the
 // device that drives them is the source of truth.
-#[derive(Clone, Copy, PartialEq, Eq)]
+#[derive(Clone, Copy, PartialEq, Eq, Default)]
 pub struct State {
     // Current state of the device.
     pub psu_state: PsuState,
@@ -239,18 +271,7 @@ pub struct State {
     pub requested_provider_capability: Option<ProviderPowerCapability>,
 }
 
-impl Default for State {
-    ghost is_default = { λ s. s ≡ default_state };
-
-    fn default() -> Self {
-        State {
-            psu_state: PsuState::Detached,
-            consumer_capability: None,
-            requested_provider_capability: None,
-        }
-    }
-}
-
+// The Rust's methods, by their names.
 impl State {
     // Attach the device. In a wrong state it returns the error and still enters Idle.
     pub fn attach(&mut self) -> Result<(), Error>

@@ -5,7 +5,7 @@ ghost use Rattle.std.specs.Prelude.{◌≡◌};
 ghost use Rattle.power_policy_interface.specs.Service.{same_unconstrained};
 
 // Unconstrained state information.
-#[derive(Clone, Copy, PartialEq, Eq)]
+#[derive(Clone, Copy, PartialEq, Eq, Default)]
 pub struct UnconstrainedState {
     // An unconstrained consumer is connected.
     pub unconstrained: bool,

@@ -2,9 +2,9 @@
 -- the earliest port with the greatest such number is what DEM-2c says.
 use Rattle.std.specs.Prelude.{None, Option, Some}
 use mathlib.Core.Path.{◌≡◌, refl, sym, ap, ◌∙◌}
-use mathlib.Core.Bool.{Bool, true, false, cond}
+use mathlib.Core.Bool.{Bool, true, cond}
 use mathlib.Core.List.{List}
-use Prim.Native.Nat.{ℕ, zero, suc, ◌+◌, ◌*◌, ◌≤◌}
+use Prim.Native.Nat.{ℕ, zero, suc, ◌+◌, ◌*◌}
 use Rattle.std.proofs.Common.{arith}
 use Rattle.std.proofs.lemmas.Grind.{common_steps}
 use lib.Dec.{ltb}
@@ -17,13 +17,8 @@ use Rattle.power_policy_service.specs.Choice.{mw, Best, Chosen}
 use Rattle.power_policy_service.specs.Consumer.{eligible, is_current, replaced, better_of, best_of}
 use Rattle.power_policy_service.specs.Rows.{psu_at}
 use Rattle.power_policy_service.proofs.Greatest.{greater, greatest, Earliest, Found, found, only_one}
-
-abbrev bit : Bool → ℕ
-bit true = 1
-bit false = 0
-
-bit_most : (b : Bool) → bit b ≤ 1
-bit_most b = grind arith
+use Rattle.power_policy_interface.specs.Capability.{bit}
+use Rattle.power_policy_interface.proofs.Bits.{bit_le}
 
 -- the order of pairs is the order of these numbers
 
@@ -54,7 +49,7 @@ module _ (minimum : Option ℕ) (current : Option AvailableConsumer) (psus : Lis
   best_from : (n : ℕ) (c : AvailableConsumer) → Earliest offers key n c → Best minimum current psus n c
   best_from n c h = record {
     offer = record { registered = h.among; offered = h.offered };
-    most = λ p d o. grind (arith, common_steps, h.most p d, bit_most (is_current current c.psu));
+    most = λ p d o. grind (arith, common_steps, h.most p d, bit_le (is_current current c.psu));
     first = λ p d o e. grind (arith, common_steps, h.most p d, h.before p d);
   }
 
@@ -66,8 +61,8 @@ module _ (minimum : Option ℕ) (current : Option AvailableConsumer) (psus : Lis
   earliest_from n c h = record {
     among = h.offer.registered;
     offered = h.offer.offered;
-    most = λ p d l o. grind (arith, common_steps, h.most p d, h.first p d, bit_most (is_current current p));
-    before = λ p d l o. grind (arith, common_steps, h.most p d, h.first p d, bit_most (is_current current p), one_current current p c.psu);
+    most = λ p d l o. grind (arith, common_steps, h.most p d, h.first p d, bit_le (is_current current p));
+    before = λ p d l o. grind (arith, common_steps, h.most p d, h.first p d, bit_le (is_current current p), one_current current p c.psu);
   }
 
   chosen_from : (n : ℕ) (x : Option AvailableConsumer) → Found offers key n x → Chosen minimum current psus n x

@@ -2,7 +2,6 @@
 use Rattle.std.specs.Prelude.{None, Option, Some}
 use mathlib.Core.Path.{◌≡◌, refl}
 use mathlib.Core.Bool.{Bool, true, false, cond}
-use mathlib.Core.Logic.{◌⊎◌}
 use Prim.Native.Nat.{ℕ, zero, suc, ◌<◌, ◌≤◌}
 use Rattle.std.proofs.Common.{arith}
 use Rattle.std.proofs.lemmas.Grind.{common_steps}
@@ -19,9 +18,6 @@ not_both e f = cc
 
 pub one_offer : {o : Option ConsumerPowerCapability} {c d : ConsumerPowerCapability} → o ≡ Some c → o ≡ Some d → c ≡ d
 one_offer e f = cc
-
-pub below_or_last : (p n : ℕ) → p < suc n → (p < n) ⊎ (p ≡ n)
-below_or_last p n h = grind arith
 
 module _ (offers : ℕ → Option ConsumerPowerCapability) (key : ℕ → ConsumerPowerCapability → ℕ) where
   abbrev pub greater : Option AvailableConsumer → ℕ → Option ConsumerPowerCapability → Option AvailableConsumer

@@ -1,5 +1,5 @@
 -- Totals as sums over the row (EVT-9), the power state, and what a request is granted (provider.rs; PRV).
-use Rattle.std.specs.Prelude.{ℕ, zero, suc, ◌+◌, cond, List, ltb, eqb, None, Option, Some}
+use Rattle.std.specs.Prelude.{ℕ, zero, suc, ◌+◌, cond, List, [], ◌∷◌, ltb, eqb, get_or, None, Option, Some}
 use Rattle.power_policy_interface.specs.Capability.{max_power_mw}
 use Rattle.power_policy_interface.specs.Psu.{connected_provider_of}
 use Rattle.power_policy_interface.specs.declared.capability.PowerCapability.{PowerCapability}
@@ -37,6 +37,18 @@ total_of psus n = sum_to (λ p. connected_mw (psu_at psus p)) n
 
 abbrev pub total_with : ℕ → ProviderPowerCapability → List State → ℕ → ℕ
 total_with requester request psus n = sum_to (λ p. requested_mw requester request p (psu_at psus p)) n
+
+-- the byte of a power state in an image: 0 Unlimited, 1 Limited
+abbrev pub power_byte : PowerState → ℕ
+power_byte PowerState.Unlimited = 0
+power_byte PowerState.Limited = 1
+
+abbrev pub powers : List (Option PowerState)
+powers = Some PowerState.Unlimited ∷ Some PowerState.Limited ∷ []
+
+-- a power state above 1 is refused
+abbrev pub power_state_from : ℕ → Option PowerState
+power_state_from b = get_or powers b None
 
 -- EVT-9: above the threshold is Limited, equal or below is Unlimited
 abbrev pub power_state_of : Config → ℕ → PowerState

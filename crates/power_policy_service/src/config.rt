@@ -19,7 +19,7 @@ pub struct Config {
 impl Default for Config {
     ghost is_default = { λ c. c ≡ default_config };
 
-    // The configuration out of the box.
+    // The configuration out of the box. No derive: it has figures where a derive has zeros.
     fn default() -> Self {
         Config::rust_default()
     }
@@ -45,7 +45,7 @@ impl Config {
     }
 
     // A configuration from numbers; none where a figure is over its Rust type. The minimum is a presence, 0 or 1, and a figure
-    // that is looked at only if present.
+    // that is looked at only if present. By names, which a TryFrom of seven numbers would not have.
     pub fn from_numbers(
         threshold: u64,
         unlimited_mv: u64,
@@ -72,6 +72,7 @@ impl Config {
     }
 }
 
+// A minimum of a presence and a figure, which are numbers of the C interface.
 fn minimum_from(presence: u64, minimum: u64) -> Option<Option<u32>>
     ensures { result ≡ minimum_from presence minimum }
 {

@@ -10,7 +10,7 @@ use power_policy_interface::psu;
 use std::cmp::Ordering;
 
 // Compares two consumer capabilities: more power first, then being the current consumer, so as to avoid switching between
-// otherwise equivalent consumers.
+// otherwise equivalent consumers. The Rust's function; whether each is current is no part of a capability, so it is no Ord.
 pub fn cmp_consumer_capability_default(
     a: ConsumerPowerCapability,
     a_is_current: bool,
@@ -74,7 +74,8 @@ pub fn better(
     if order.is_gt() { found } else { best }
 }
 
-// The best consumer among the ports. A row is an array with a count beside it, as the rows of a call are read: memory is fixed.
+// The best consumer among the first ports of a row by value, as `Records` has it, with the count beside it, as `Registration` has it. Over a slice the caller
+// would cut the row, and owe a lemma that the best of the part is the best of the row, as the totals have one (proofs/Same.antt).
 pub fn find_best_consumer_default(
     minimum: Option<u32>,
     current: Option<AvailableConsumer>,
@@ -84,6 +85,7 @@ pub fn find_best_consumer_default(
     ensures { result ≡ best_of minimum current psus (min max_ports ports) }
 {
     let mut best = None;
+    // Over the ports' numbers, which are handed on as they are: `psus.iter().enumerate()` would count in usize, be cut at `ports` and be cast back.
     for i in 0..ports.min(MAX_PORTS) {
         best = better(
             current,

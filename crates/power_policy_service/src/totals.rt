@@ -1,6 +1,6 @@
 // Provider totals over a row of PSU records (provider.rs). Only the first 16 records count, as no more ports are registered; in
 // 64 bits no sum of 16 figures can overflow.
-ghost use Rattle.std.specs.Prelude.{◌≡◌, min, length};
+ghost use Rattle.std.specs.Prelude.{◌≡◌, min, length, take};
 ghost use Rattle.power_policy_interface.specs.Limits.{max_ports};
 ghost use Rattle.power_policy_service.specs.Provider.{connected_mw, counted_mw, sum_to, total_of, total_with};
 ghost use Rattle.power_policy_service.specs.Rows.{psu_at};
@@ -34,13 +34,20 @@ fn counted_mw(psu: State, port: usize, request: Option<Request>) -> u32
     }
 }
 
+// The records of the first ports: the one place that cuts a row, which its callers have by value with its count.
+pub(crate) fn first(psus: &[State], ports: u8) -> &[State]
+    ensures { result.now ≡ take ports psus.now }
+{
+    &psus[..psus.len().min(ports as usize)]
+}
+
 // What the ports count for together.
 fn sum_mw(psus: &[State], request: Option<Request>) -> u64
     ensures { result ≡ sum_to (λ p. counted_mw request p (psu_at psus.now p)) (min max_ports (length psus.now)) }
 {
     let mut total = 0;
-    for i in 0..psus.len().min(MAX_PORTS as usize) {
-        total += counted_mw(psus[i], i, request) as u64;
+    for (port, &psu) in first(psus, MAX_PORTS).iter().enumerate() {
+        total += counted_mw(psu, port, request) as u64;
     }
     total
 }

@@ -38,7 +38,8 @@ use Rattle.bytes_follower_image.specs.Image.{follower_from}
 use Rattle.promise_invariant.proofs.Good.{Good}
 use Rattle.bytes_calls.specs.Calls.{start_call}
 use Rattle.abi_functions.specs.Ours.{functions}
-use Rattle.abstract_calls.proofs.Lists.{no_bytes, bytes_more}
+use Rattle.interface_records.proofs.OneRow.{no_bytes}
+use Rattle.abstract_calls.proofs.Lists.{bytes_more}
 use Rattle.promise_calls.specs.Refused.{of_image, refusals_of}
 use Rattle.promise_calls.proofs.Images.{calls_fit, image_read}
 use Rattle.promise_calls.proofs.First.{call_refuses, start_refuses}

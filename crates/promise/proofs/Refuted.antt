@@ -10,7 +10,7 @@ use lib.Dec.{ltb}
 use borrow.Author.Tests.{ltb-true}
 use lib.ListN.{length, replicate, take, get_or, set}
 use Rattle.power_policy_interface.specs.Limits.{service_length, follower_length}
-use Rattle.power_policy_interface.proofs.Conjunction.{and_left, and_right}
+use Rattle.std.proofs.lemmas.Bool.{and_parts}
 use Rattle.interface_records.specs.Row.{AllBytes}
 use Rattle.interface_display.specs.declared.packet.EventPacket.{EventPacket}
 use Rattle.interface_display.specs.declared.packet.Packet.{Packet}
@@ -32,7 +32,7 @@ use Rattle.abstract_calls.specs.Calls.{CallsBytes, returned, buffer_after, image
 use Rattle.abstract_calls.specs.DeskCall.{take_packet}
 use Rattle.abstract_calls.specs.Functions.{Functions, Arguments, arguments}
 use Rattle.abstract_calls.specs.Definition.{defined, held, return_to, buffer_to}
-use Rattle.abstract_calls.proofs.Lists.{no_bytes}
+use Rattle.interface_records.proofs.OneRow.{no_bytes}
 use Rattle.abstract_calls.proofs.Results.{refused_low}
 use Rattle.abi_functions.specs.Ours.{functions}
 use Rattle.promise_calls.proofs.Low.{not_two}
@@ -80,8 +80,8 @@ small (a ∷ l) = ltb a 256 && small l
 
 below : (l : List ℕ) → small l ≡ true → AllBytes l
 below [] h k = omega arith
-below (a ∷ l) h zero = ltb-true a 256 (and_left (ltb a 256) (small l) h)
-below (a ∷ l) h (suc k) = below l (and_right (ltb a 256) (small l) h) k
+below (a ∷ l) h zero = ltb-true a 256 (and_parts (ltb a 256) (small l) h).0
+below (a ∷ l) h (suc k) = below l (and_parts (ltb a 256) (small l) h).1 k
 
 -- Idle, 5,000 mV and 3,000 mA offered
 abbrev offers : List ℕ
@@ -320,10 +320,6 @@ four = connects 0 ++ (connects 1 ++ (connects 2 ++ connects 3))
 
 provides_bytes : AllBytes provides
 provides_bytes = below provides refl
-
-four_bytes_lem : CallsBytes four
-four_bytes_lem =
-    (provides_bytes, (provides_bytes, (provides_bytes, (provides_bytes, (provides_bytes, (provides_bytes, (provides_bytes, (provides_bytes, tt))))))))
 
 -- an event of this kind from port 0 after them
 abbrev leaves : ℕ → List ByteCall

@@ -28,7 +28,7 @@ use Rattle.machine_state.specs.declared.phase.Phase.{Phase}
 use Rattle.machine_state.specs.declared.phase.Stage.{Stage}
 use Rattle.machine_service.specs.Service.{answer_in}
 use Rattle.machine_service.specs.declared.Service.{Service}
-use Rattle.power_policy_interface.proofs.Conjunction.{and_left, and_right}
+use Rattle.std.proofs.lemmas.Bool.{and_parts}
 use Rattle.promise_run.specs.Demands as run
 use Rattle.promise_run.specs.Demands.{Equal}
 use Rattle.promise_run.specs.Run.{services, CallsFit}
@@ -57,24 +57,24 @@ InOrder (Some o) = OrderFits o
 
 order_fits : (ports chargers : ℕ) (p : Phase) → ports ≤ 16 → chargers ≤ 8 → phase_fits ports chargers p ≡ true → PhaseTyped p → InOrder (order_of p)
 order_fits ports chargers (Phase.Closed a) h k e t = tt
-order_fits ports chargers (Phase.Leaving i p f) h k e t = byte i chargers 8 (and_left (ltb i chargers) (ltb p ports) e) k (omega arith)
-order_fits ports chargers (Phase.Switching Leaver.Psu old f new) h k e t = byte old ports 16 (and_left (ltb old ports) (ltb new.psu ports) e) h (omega arith)
+order_fits ports chargers (Phase.Leaving i p f) h k e t = byte i chargers 8 (and_parts (ltb i chargers) (ltb p ports) e).0 k (omega arith)
+order_fits ports chargers (Phase.Switching Leaver.Psu old f new) h k e t = byte old ports 16 (and_parts (ltb old ports) (ltb new.psu ports) e).0 h (omega arith)
 order_fits ports chargers (Phase.Switching (Leaver.Charger i) old f new) h k e t =
-    byte i chargers 8 (and_left (ltb i chargers) (ltb old ports && ltb new.psu ports) e) k (omega arith)
+    byte i chargers 8 (and_parts (ltb i chargers) (ltb old ports && ltb new.psu ports) e).0 k (omega arith)
 order_fits ports chargers (Phase.Connecting Stage.Psu new) h k e t =
     (byte new.psu ports 16 e h (omega arith), capability new.consumer_power_capability.capability t)
 order_fits ports chargers (Phase.Connecting Stage.Settling new) h k e t = tt
-order_fits ports chargers (Phase.Connecting (Stage.Readying i) new) h k e t = byte i chargers 8 (and_left (ltb i chargers) (ltb new.psu ports) e) k (omega arith)
-order_fits ports chargers (Phase.Connecting (Stage.Initializing i) new) h k e t = byte i chargers 8 (and_left (ltb i chargers) (ltb new.psu ports) e) k (omega arith)
+order_fits ports chargers (Phase.Connecting (Stage.Readying i) new) h k e t = byte i chargers 8 (and_parts (ltb i chargers) (ltb new.psu ports) e).0 k (omega arith)
+order_fits ports chargers (Phase.Connecting (Stage.Initializing i) new) h k e t = byte i chargers 8 (and_parts (ltb i chargers) (ltb new.psu ports) e).0 k (omega arith)
 order_fits ports chargers (Phase.Connecting (Stage.Attaching i) new) h k e t =
-    (byte i chargers 8 (and_left (ltb i chargers) (ltb new.psu ports) e) k (omega arith), capability new.consumer_power_capability.capability t)
+    (byte i chargers 8 (and_parts (ltb i chargers) (ltb new.psu ports) e).0 k (omega arith), capability new.consumer_power_capability.capability t)
 order_fits ports chargers (Phase.Providing p c) h k e t = (byte p ports 16 e h (omega arith), capability c.capability t)
 
 mismatch_fits_lem : (m : Option Mismatch) → mismatch_fits m ≡ true → MismatchFits m
 mismatch_fits_lem None e = tt
 mismatch_fits_lem (Some m) e =
-    let l = leb-true m.expected 15 (and_right (ltb 0 m.expected) (leb m.expected 15) e) in
-    (ltb-true 0 m.expected (and_left (ltb 0 m.expected) (leb m.expected 15) e), omega (arith, l))
+    let l = leb-true m.expected 15 (and_parts (ltb 0 m.expected) (leb m.expected 15) e).1 in
+    (ltb-true 0 m.expected (and_parts (ltb 0 m.expected) (leb m.expected 15) e).0, omega (arith, l))
 
 error_fits_lem : (e : Error) → error_fits e ≡ true → MismatchFits (mismatch_of e)
 error_fits_lem Error.InvalidDevice h = tt

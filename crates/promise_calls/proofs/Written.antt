@@ -31,8 +31,9 @@ use Rattle.promise_run.specs.Run.{after_call, services}
 use Rattle.abstract_calls.specs.Lent.{written_as, written_call, packet_call, picture_call}
 use Rattle.abstract_calls.specs.Numbers.{written_number}
 use Rattle.abstract_calls.specs.ServiceCall.{ByteCall, write_packet, write_picture, in_buffer}
-use Rattle.abstract_calls.specs.Calls.{buffer_after, images, CallsBytes, Writes}
-use Rattle.abstract_calls.specs.Definition.{call_of, calls_of, defined}
+use Rattle.abstract_calls.specs.Called.{Called, refused_call}
+use Rattle.abstract_calls.specs.Calls.{returned, buffer_after, images, CallsBytes, Writes}
+use Rattle.abstract_calls.specs.Definition.{call_of, calls_of, defined, return_to, buffer_to}
 use Rattle.abstract_calls.proofs.Results.{refused_low, written_length}
 use Rattle.bytes_service_image.specs.Image.{service_bytes}
 use Rattle.promise_invariant.proofs.Good.{Good}
@@ -99,34 +100,41 @@ module _ (s : Service) (good : Good s) (demands : run.Demands s) (calls : List B
             let k : y ≡ packet_bytes p = z ∙ front (packet_bytes p) buffer (packet_length p (on.source.fits p v)) (ltb-false (length buffer) 64 t) in
             record { written = v; bytes = k; read = read_back on.source p y v k }
 
+    -- a write of the run of what the policy has, or is refused: what was written is what it has, as the packet `of` it
+    module _ {A : Type 0} (of : A → Packet) (asked : Result A ℕ) (w : ByteCall) (c : Call) (buffer : List ℕ) (made : Result A ℕ → Called)
+        (turned : (n : ℕ) → made (Err n) ≡ refused_call n buffer) (wrote : (v : A) → made (Ok v) ≡ written_call (packet_bytes (of v)) buffer)
+        (one : call_of (defined g before) w ≡ in_buffer buffer c)
+        (number : return_to (defined g before) w ≡ (made asked).number) (bytes : buffer_to (defined g before) w ≡ (made asked).bytes)
+        (told : (v : A) → asked ≡ Ok v → runs.Sends (services s (calls_of (started g) before)) c (of v)) where
+      any-sent : (y : List ℕ) → calls ≡ before ++ (w ∷ rest) → Writes functions (images functions (service_bytes s) before) w y →
+          (v : A) × (asked ≡ Ok v) × Sent y (of v)
+      any-sent y among h =
+          go asked refl
+          (ap (λ (n : ℕ). n % 256) (sym n) ∙ h.0)
+          (h.1
+          ∙ (ap (λ (m : ℕ). take (m / 256 % 256) (buffer_after functions (images functions (service_bytes s) before) w)) n
+          ∙ ap (λ (l : List ℕ). take ((made asked).number / 256 % 256) l) (reached_buffers s good demands before b w ∙ bytes)))
+        where
+          n : returned functions (images functions (service_bytes s) before) w ≡ (made asked).number
+          n = reached_returns s good demands before b w ∙ number
+
+          go : (x : Result A ℕ) → asked ≡ x → (made x).number % 256 ≡ 3 → y ≡ take ((made x).number / 256 % 256) (made x).bytes → (v : A) × (asked ≡ Ok v) × Sent y (of v)
+          go (Err k) q e f = absurd (not_two (refused_low k) (ap (λ (r : Called). r.number % 256) (sym (turned k)) ∙ e) refl)
+          go (Ok v) q e f = (
+            v,
+            q,
+            sent w c (of v) buffer y among one (told v q) (ap (λ (r : Called). r.number % 256) (sym (wrote v)) ∙ e)
+                (f ∙ ap (λ (r : Called). take (r.number / 256 % 256) r.bytes) (wrote v)),
+          )
+
     pub packet-sent : (buffer y : List ℕ) → calls ≡ before ++ (write_packet buffer ∷ rest) → Writes functions (images functions (service_bytes s) before) (write_packet buffer) y →
         (e : EventPacket) × (packet_to (defined g before) ≡ Ok e) × Sent y (Packet.Event e)
     packet-sent buffer y among w =
-        go (packet_to (defined g before)) refl
-        (ap (λ (n : ℕ). n % 256) (sym (reached_returns s good demands before b (write_packet buffer))) ∙ w.0)
-        (w.1
-        ∙ (ap (λ (n : ℕ). take (n / 256 % 256) (buffer_after functions (images functions (service_bytes s) before) (write_packet buffer))) (reached_returns s good demands before b (write_packet buffer))
-        ∙ ap (λ (r : List ℕ). take ((packet_call (packet_to (defined g before)) buffer).number / 256 % 256) r) (reached_buffers s good demands before b (write_packet buffer))))
-      where
-        go : (x : Result EventPacket ℕ) → packet_to (defined g before) ≡ x → (packet_call x buffer).number % 256 ≡ 3 →
-            y ≡ take ((packet_call x buffer).number / 256 % 256) (packet_call x buffer).bytes →
-            (e : EventPacket) × (packet_to (defined g before) ≡ Ok e) × Sent y (Packet.Event e)
-        go (Err n) q h z = absurd (not_two (refused_low n) h refl)
-        go (Ok e) q h z =
-            (e, q, sent (write_packet buffer) policy.write_packet (Packet.Event e) buffer y among refl (e, (reached_equal s good demands before b).packet ∙ q, refl) h z)
+        any-sent Packet.Event (packet_to (defined g before)) (write_packet buffer) policy.write_packet buffer (λ x. packet_call x buffer) (λ n. refl) (λ e. refl) refl refl refl
+        (λ e q. (e, (reached_equal s good demands before b).packet ∙ q, refl)) y among w
 
     pub picture-sent : (buffer y : List ℕ) → calls ≡ before ++ (write_picture buffer ∷ rest) → Writes functions (images functions (service_bytes s) before) (write_picture buffer) y →
         (v : Picture) × (picture_to (defined g before) ≡ Ok v) × Sent y (Packet.Picture v)
     picture-sent buffer y among w =
-        go (picture_to (defined g before)) refl
-        (ap (λ (n : ℕ). n % 256) (sym (reached_returns s good demands before b (write_picture buffer))) ∙ w.0)
-        (w.1
-        ∙ (ap (λ (n : ℕ). take (n / 256 % 256) (buffer_after functions (images functions (service_bytes s) before) (write_picture buffer))) (reached_returns s good demands before b (write_picture buffer))
-        ∙ ap (λ (r : List ℕ). take ((picture_call (picture_to (defined g before)) buffer).number / 256 % 256) r) (reached_buffers s good demands before b (write_picture buffer))))
-      where
-        go : (x : Result Picture ℕ) → picture_to (defined g before) ≡ x → (picture_call x buffer).number % 256 ≡ 3 →
-            y ≡ take ((picture_call x buffer).number / 256 % 256) (picture_call x buffer).bytes →
-            (v : Picture) × (picture_to (defined g before) ≡ Ok v) × Sent y (Packet.Picture v)
-        go (Err n) q h z = absurd (not_two (refused_low n) h refl)
-        go (Ok v) q h z =
-            (v, q, sent (write_picture buffer) policy.write_picture (Packet.Picture v) buffer y among refl (v, (reached_equal s good demands before b).picture ∙ q, refl) h z)
+        any-sent Packet.Picture (picture_to (defined g before)) (write_picture buffer) policy.write_picture buffer (λ x. picture_call x buffer) (λ n. refl) (λ v. refl) refl refl refl
+        (λ v q. (v, (reached_equal s good demands before b).picture ∙ q, refl)) y among w

@@ -40,16 +40,11 @@ use Rattle.machine_follows.specs.Machine.{held_of, rest, stands_at, stands_for, 
 use Rattle.machine_follows.specs.Served.{service_after, numbered, Stands}
 use Rattle.machine_follows.proofs.Follows.{leaving_answered, switching_answered, connecting_answered, providing_answered}
 use Rattle.machine_follows.proofs.Serves.{open_orders, service, service_at, answers_follow}
-use Rattle.power_policy_interface.proofs.Conjunction.{and_left, and_right}
+use Rattle.std.proofs.lemmas.Bool.{and_parts, false≢true}
 use Rattle.bytes_service_image.specs.WellFormed.{leaver_fits, stage_fits, stage_least, phase_fits, none_connected, no_provider, not_disconnected, no_consumer, no_figures, not_connected, not_updated, nothing_told, tells}
 use Rattle.promise_invariant.proofs.Good.{Good, At, Limits, Parts, parts}
 use Rattle.promise_invariant.proofs.Steps.{TurnGood, orders_most_lem, answered_good}
 use Rattle.promise_invariant.proofs.Invariant.{answer_good}
-
-apart : false ≡ true → ⊥
-apart e =
-    let z : ◌≡◌ {A = ℕ} 0 1 = cc in
-    omega arith
 
 -- a list of answers, refused ones included
 
@@ -93,55 +88,55 @@ good_35 s l h = omega (arith, good_bound s l h, (parts s h).limits.chargers)
 
 not_connected_lem : (n : Notices) → not_connected n ≡ true → NotConnected n
 not_connected_lem n h =
-    let x = and_right (none_connected n.provider) (no_consumer n.connected && no_figures n.unconstrained) h in
+    let x = (and_parts (none_connected n.provider) (no_consumer n.connected && no_figures n.unconstrained) h).1 in
     record {
-      connected = consumer n.connected (and_left (no_consumer n.connected) (no_figures n.unconstrained) x);
-      unconstrained = figures n.unconstrained (and_right (no_consumer n.connected) (no_figures n.unconstrained) x);
+      connected = consumer n.connected (and_parts (no_consumer n.connected) (no_figures n.unconstrained) x).0;
+      unconstrained = figures n.unconstrained (and_parts (no_consumer n.connected) (no_figures n.unconstrained) x).1;
     }
   where
     consumer : (c : Option AvailableConsumer) → no_consumer c ≡ true → c ≡ None
     consumer None e = refl
-    consumer (Some c) e = absurd (apart e)
+    consumer (Some c) e = absurd (false≢true e)
 
     figures : (u : Option UnconstrainedState) → no_figures u ≡ true → u ≡ None
     figures None e = refl
-    figures (Some u) e = absurd (apart e)
+    figures (Some u) e = absurd (false≢true e)
 
 not_updated_lem : (n : Notices) → not_updated n ≡ true → NotUpdated n
 not_updated_lem n h = record {
-  disconnected = consumer n.disconnected (and_left (not_disconnected n.disconnected) (not_connected n) h);
-  later = not_connected_lem n (and_right (not_disconnected n.disconnected) (not_connected n) h);
+  disconnected = consumer n.disconnected (and_parts (not_disconnected n.disconnected) (not_connected n) h).0;
+  later = not_connected_lem n (and_parts (not_disconnected n.disconnected) (not_connected n) h).1;
 }
   where
     consumer : (d : Option Disconnected) → not_disconnected d ≡ true → d ≡ None
     consumer None e = refl
-    consumer (Some d) e = absurd (apart e)
+    consumer (Some d) e = absurd (false≢true e)
 
 nothing_told_lem : (n : Notices) → nothing_told n ≡ true → n ≡ no_notices
 nothing_told_lem n h =
-    let x = provider n.provider (and_left (no_provider n.provider) (not_updated n) h) in
-    let y = not_updated_lem n (and_right (no_provider n.provider) (not_updated n) h) in
+    let x = provider n.provider (and_parts (no_provider n.provider) (not_updated n) h).0 in
+    let y = not_updated_lem n (and_parts (no_provider n.provider) (not_updated n) h).1 in
     λ i. record { provider = x i; disconnected = y.disconnected i; connected = y.later.connected i; unconstrained = y.later.unconstrained i }
   where
-    provider : (p : ProviderNotice) → no_provider p ≡ true → p ≡ ProviderNotice.None
-    provider ProviderNotice.None e = refl
-    provider (ProviderNotice.Disconnected p) e = absurd (apart e)
-    provider (ProviderNotice.Connected p c) e = absurd (apart e)
+    provider : (p : Option ProviderNotice) → no_provider p ≡ true → p ≡ None
+    provider None e = refl
+    provider (Some (ProviderNotice.Disconnected p)) e = absurd (false≢true e)
+    provider (Some (ProviderNotice.Connected p c)) e = absurd (false≢true e)
 
 stage_fits_lem : (chargers : ℕ) (s : Stage) (b : Bool) → stage_fits chargers s && b ≡ true → machine.StageFits chargers s
 stage_fits_lem chargers Stage.Psu b e = tt
 stage_fits_lem chargers Stage.Settling b e = tt
-stage_fits_lem chargers (Stage.Readying i) b e = ltb-true i chargers (and_left (ltb i chargers) b e)
-stage_fits_lem chargers (Stage.Initializing i) b e = ltb-true i chargers (and_left (ltb i chargers) b e)
-stage_fits_lem chargers (Stage.Attaching i) b e = ltb-true i chargers (and_left (ltb i chargers) b e)
+stage_fits_lem chargers (Stage.Readying i) b e = ltb-true i chargers (and_parts (ltb i chargers) b e).0
+stage_fits_lem chargers (Stage.Initializing i) b e = ltb-true i chargers (and_parts (ltb i chargers) b e).0
+stage_fits_lem chargers (Stage.Attaching i) b e = ltb-true i chargers (and_parts (ltb i chargers) b e).0
 
 leaver_fits_lem : (chargers : ℕ) (l : Leaver) (b : Bool) → leaver_fits chargers l && b ≡ true → machine.LeaverFits chargers l
 leaver_fits_lem chargers Leaver.Psu b e = tt
-leaver_fits_lem chargers (Leaver.Charger i) b e = ltb-true i chargers (and_left (ltb i chargers) b e)
+leaver_fits_lem chargers (Leaver.Charger i) b e = ltb-true i chargers (and_parts (ltb i chargers) b e).0
 
 phase_fits_lem : (ports chargers : ℕ) (p : Phase) (n : Notices) → phase_fits ports chargers p ≡ true → tells p n ≡ true → Fits chargers p n
 phase_fits_lem ports chargers (Phase.Closed a) n e t = tt
-phase_fits_lem ports chargers (Phase.Leaving i p f) n e t = (ltb-true i chargers (and_left (ltb i chargers) (ltb p ports) e), not_updated_lem n t)
+phase_fits_lem ports chargers (Phase.Leaving i p f) n e t = (ltb-true i chargers (and_parts (ltb i chargers) (ltb p ports) e).0, not_updated_lem n t)
 phase_fits_lem ports chargers (Phase.Switching l old f new) n e t = (leaver_fits_lem chargers l (ltb old ports && ltb new.psu ports) e, not_updated_lem n t)
 phase_fits_lem ports chargers (Phase.Connecting s new) n e t = (stage_fits_lem chargers s (ltb new.psu ports) e, not_connected_lem n t)
 phase_fits_lem ports chargers (Phase.Providing p c) n e t = nothing_told_lem n t
@@ -204,7 +199,7 @@ pub record Waits (g : Registration) (number k : ℕ) (p : Phase) (m : Memory) : 
   pub unnumbered : numbered number (stands_at g p m) ≡ number
 
 waits : (ports chargers number k : ℕ) (g : Registration) (p : Phase) (m : Memory) → At ports chargers k p m → is_open p ≡ true → Waits g number k p m
-waits ports chargers number k g (Phase.Closed a) m h e = absurd (apart e)
+waits ports chargers number k g (Phase.Closed a) m h e = absurd (false≢true e)
 waits ports chargers number k g (Phase.Leaving i p f) m h e = record { counted = h.least; open_order = refl; unnumbered = refl }
 waits ports chargers number k g (Phase.Switching l old f new) m h e = record { counted = h.least; open_order = refl; unnumbered = refl }
 waits ports chargers number k g (Phase.Connecting s new) m h e = record { counted = omega (arith, h.least, stage_ordered s); open_order = refl; unnumbered = refl }
@@ -212,10 +207,10 @@ waits ports chargers number k g (Phase.Providing p c) m h e = record { counted =
 
 closed_rest : (n : ℕ) (g : Registration) (p : Phase) (m : Memory) → is_open p ≡ false → AtMost n (stands_at g p m)
 closed_rest n g (Phase.Closed a) m e = tt
-closed_rest n g (Phase.Leaving i p f) m e = absurd (apart (sym e))
-closed_rest n g (Phase.Switching l old f new) m e = absurd (apart (sym e))
-closed_rest n g (Phase.Connecting s new) m e = absurd (apart (sym e))
-closed_rest n g (Phase.Providing p c) m e = absurd (apart (sym e))
+closed_rest n g (Phase.Leaving i p f) m e = absurd (false≢true (sym e))
+closed_rest n g (Phase.Switching l old f new) m e = absurd (false≢true (sym e))
+closed_rest n g (Phase.Connecting s new) m e = absurd (false≢true (sym e))
+closed_rest n g (Phase.Providing p c) m e = absurd (false≢true (sym e))
 
 -- so many orders are left at most, the open one among them
 pub good_rest : (s : Service) → Good s → AtMost (4 + 4 * s.registration.chargers - s.orders) (stands_at s.registration s.phase s.memory)
@@ -268,7 +263,7 @@ closed_same s a r e = go (unknown_answer (order_of s.phase) a) (is_open s.phase)
         (let n : ℕ = cond u 24 (cond (not w) 26 0) in
         (cond (eqb n 0) (answered_by s (order_in (order_of s.phase)) (result_of a) r) (refused n s)).service ≡ s)
     go true w f = refl
-    go false true f = absurd (apart (sym f))
+    go false true f = absurd (false≢true (sym f))
     go false false f = refl
 
 closed_stays : (l : Answers) (s : Service) → is_open s.phase ≡ false → is_open (service_after s l).phase ≡ false
@@ -280,7 +275,7 @@ moved_counts : (g : Registration) (number k : ℕ) (t : Turn) → k < 255 → is
 moved_counts g number k t l = go (order_of t.phase) refl
   where
     go : (o : Option Order) → order_of t.phase ≡ o → is_open (moved_by o g number k t).service.phase ≡ true → (moved_by o g number k t).service.orders ≡ suc k
-    go None e f = absurd (apart (rw e at f))
+    go None e f = absurd (false≢true (rw e at f))
     go (Some o) e f = rw (lt-ltb k 255 l)
 
 -- an answer that is taken counts one order more, or closes

@@ -14,7 +14,7 @@ use Rattle.machine_state.specs.declared.memory.Memory.{Memory}
 use Rattle.machine_state.specs.declared.memory.Notices.{Notices}
 use Rattle.machine_state.specs.declared.phase.Phase.{Phase}
 use Rattle.machine_service.specs.declared.Service.{Service}
-use Rattle.power_policy_interface.proofs.Conjunction.{and_both}
+use Rattle.std.proofs.lemmas.Bool.{and_parts}
 use Rattle.bytes_service_image.specs.Typed.{ConsumerTyped, ProviderTyped, PhaseTyped, Typed}
 use Rattle.bytes_service_image.specs.WellFormed.{registration_fits, consumer_fits, providers_fit, state_fits, phase_fits, orders_least, orders_most, orders_fit, provider_fits, disconnected_fits, unconstrained_fits, notices_fit, tells, number_fits, event_fits, well_formed}
 
@@ -69,17 +69,17 @@ pub record Parts (s : Service) : Type 0 where
 state_parts : (ports : ℕ) (s : InternalState) → state_fits ports s ≡ true → ConsumerTyped s.current_consumer_state → StateGood ports s
 state_parts ports s h t =
     let p = s.connected_providers in
-    let x = and_both (consumer_fits ports s.current_consumer_state) (leb s.unconstrained.available ports && providers_fit ports p) h in
-    let y = and_both (leb s.unconstrained.available ports) (providers_fit ports p) x.1 in
-    let z = and_both (ltb p.mask (2 ^ ports)) (leb (len p) 4) y.1 in
+    let x = and_parts (consumer_fits ports s.current_consumer_state) (leb s.unconstrained.available ports && providers_fit ports p) h in
+    let y = and_parts (leb s.unconstrained.available ports) (providers_fit ports p) x.1 in
+    let z = and_parts (ltb p.mask (2 ^ ports)) (leb (len p) 4) y.1 in
     record { consumer = x.0; typed = t; available = y.0; tracked = z.0; few = z.1 }
 
 notices_parts : (ports : ℕ) (n : Notices) → notices_fit ports n ≡ true → ProviderTyped n.provider → ConsumerTyped n.connected → NoticesGood ports n
 notices_parts ports n h t u =
     let x =
-    and_both (provider_fits ports n.provider) (disconnected_fits ports n.disconnected && (consumer_fits ports n.connected && unconstrained_fits ports n.unconstrained)) h in
-    let y = and_both (disconnected_fits ports n.disconnected) (consumer_fits ports n.connected && unconstrained_fits ports n.unconstrained) x.1 in
-    let z = and_both (consumer_fits ports n.connected) (unconstrained_fits ports n.unconstrained) y.1 in
+    and_parts (provider_fits ports n.provider) (disconnected_fits ports n.disconnected && (consumer_fits ports n.connected && unconstrained_fits ports n.unconstrained)) h in
+    let y = and_parts (disconnected_fits ports n.disconnected) (consumer_fits ports n.connected && unconstrained_fits ports n.unconstrained) x.1 in
+    let z = and_parts (consumer_fits ports n.connected) (unconstrained_fits ports n.unconstrained) y.1 in
     record { provider = x.0; granted = t; disconnected = y.0; connected = z.0; typed = u; unconstrained = z.1 }
 
 pub parts : (s : Service) → Good s → Parts s
@@ -92,14 +92,14 @@ parts s h =
     let phase = phase_fits g.ports g.chargers s.phase in
     let orders = orders_fit g.chargers s.phase s.orders in
     let told = notices_fit g.ports n && tells s.phase n in
-    let x = and_both (registration_fits g) (state && event_fits g.ports g.chargers s.phase s.number s.orders n) h.fits in
-    let r = and_both (leb g.ports 16) (leb g.chargers 8) x.0 in
-    let y = and_both state (event_fits g.ports g.chargers s.phase s.number s.orders n) x.1 in
-    let z = and_both phase (number_fits s.phase s.number && (orders && told)) y.1 in
-    let u = and_both (number_fits s.phase s.number) (orders && told) z.1 in
-    let v = and_both orders told u.1 in
-    let o = and_both (leb (orders_least s.phase) s.orders) (leb s.orders (orders_most g.chargers s.phase)) v.0 in
-    let w = and_both (notices_fit g.ports n) (tells s.phase n) v.1 in
+    let x = and_parts (registration_fits g) (state && event_fits g.ports g.chargers s.phase s.number s.orders n) h.fits in
+    let r = and_parts (leb g.ports 16) (leb g.chargers 8) x.0 in
+    let y = and_parts state (event_fits g.ports g.chargers s.phase s.number s.orders n) x.1 in
+    let z = and_parts phase (number_fits s.phase s.number && (orders && told)) y.1 in
+    let u = and_parts (number_fits s.phase s.number) (orders && told) z.1 in
+    let v = and_parts orders told u.1 in
+    let o = and_parts (leb (orders_least s.phase) s.orders) (leb s.orders (orders_most g.chargers s.phase)) v.0 in
+    let w = and_parts (notices_fit g.ports n) (tells s.phase n) v.1 in
     record {
       limits = record { ports = leb-true g.ports 16 r.0; chargers = leb-true g.chargers 8 r.1; config = t.config };
       number = t.number;

@@ -35,8 +35,8 @@ use Rattle.machine_service.specs.Service.{fresh_service, stepped, refused, moved
 use Rattle.machine_service.specs.declared.Service.{Service}
 use Rattle.machine_follows.specs.Machine.{stands_at}
 use Rattle.machine_follows.specs.Served.{numbered}
-use Rattle.machine_follows.proofs.Serves.{service, service_at, closed_answer, open_answer, moved_to, last_not_refused, below}
-use Rattle.power_policy_interface.proofs.Conjunction.{and_left, and_right}
+use Rattle.machine_follows.proofs.Serves.{service, service_at, closed_answer, open_answer, moved_to, none_refused, below}
+use Rattle.std.proofs.lemmas.Bool.{and_parts}
 use Rattle.promise_run.specs.Run.{after_call, services, CallFits, CallsFit}
 use Rattle.promise_run.specs.Sized.{RecordsFit}
 use Rattle.bytes_service_image.specs.WellFormed.{error_fits, result_fits, number_fits}
@@ -108,7 +108,7 @@ open_good s kind device detail r w h = go (eqb n 0) refl (eqb kind 5) refl
         let port : leb g.ports device ≡ false = rw f at (first_not_refused (not_registered g.ports g.chargers kind device) _ e) in
         let number : s.number < largest =
         below s.number (eqb kind 5) f q.number
-        (last_not_refused (not_registered g.ports g.chargers kind device) (unknown_event kind detail) (is_open s.phase) (numbers_used kind s.number) e) in
+        (none_refused (not_registered g.ports g.chargers kind device) (unknown_event kind detail) (is_open s.phase) (numbers_used kind s.number) e).3 in
         moved_good g s.number 0 (process_of g (remember s.memory.state no_notices) device (event_of kind detail) r) q.limits number (omega arith)
         (process_good g q.limits r s.memory.state device (event_of kind detail) w (cleared_good g.ports s.memory.state q.stands.memory.state)
         (lt-ltb device g.ports (leb-false g.ports device port)))
@@ -127,8 +127,8 @@ all_fit (a ∷ l) = result_fits (result_in a) && all_fit l
 
 one_fits : (l : List (Option (Result (Unit {0}) Error))) (n : ℕ) → all_fit l ≡ true → result_fits (result_in (get_or l n None)) ≡ true
 one_fits [] n e = refl
-one_fits (a ∷ l) zero e = and_left (result_fits (result_in a)) (all_fit l) e
-one_fits (a ∷ l) (suc n) e = one_fits l n (and_right (result_fits (result_in a)) (all_fit l) e)
+one_fits (a ∷ l) zero e = (and_parts (result_fits (result_in a)) (all_fit l) e).0
+one_fits (a ∷ l) (suc n) e = one_fits l n (and_parts (result_fits (result_in a)) (all_fit l) e).1
 
 failed_fits : (o : Order) (e : Error) → error_fits e ≡ true → result_fits (failed o e) ≡ true
 failed_fits (Order.Disconnect p) e h = h

@@ -45,9 +45,9 @@ use Rattle.machine_process.specs.Process.{provide_if, provide_for, post_provider
 use Rattle.machine_follows.specs.Machine.{stands_for}
 use Rattle.machine_follows.proofs.Serves.{open_orders}
 use Rattle.wire.specs.WellFormed as wire
-use Rattle.power_policy_interface.proofs.Conjunction.{and_left, and_right}
+use Rattle.std.proofs.lemmas.Bool.{and_parts, and_from}
 use Rattle.promise_run.specs.Sized.{RequestFits, RecordsFit}
-use Rattle.promise_run.proofs.Sized.{both, best_fits, psu_fits, available_le, grant_fits}
+use Rattle.promise_run.proofs.Sized.{best_fits, psu_fits, available_le, grant_fits}
 use Rattle.bytes_service_image.specs.Typed.{ConsumerTyped}
 use Rattle.bytes_service_image.specs.WellFormed.{result_fits, consumer_fits, phase_fits, orders_most, not_disconnected, not_connected, not_updated, nothing_told}
 use Rattle.promise_invariant.proofs.Good.{StateGood, NoticesGood, MemoryGood, At, Limits}
@@ -85,10 +85,7 @@ tracks : (ports : ℕ) (s : InternalState) → ports ≤ 16 → StateGood ports 
 tracks ports s l h =
     let m : s.connected_providers.mask < 2 ^ ports = ltb-true s.connected_providers.mask (2 ^ ports) h.tracked in
     let w : 2 ^ ports ≤ 2 ^ 16 = pow_mono l in
-    record { ports = lt-le m w; few = leb-true (len s.connected_providers) 4 h.few }
-  where
-    lt-le : {a b c : ℕ} → a < b → b ≤ c → a < c
-    lt-le x y = omega arith
+    record { ports = omega (arith, m, w); few = leb-true (len s.connected_providers) 4 h.few }
 
 insert_mask : (s : Providers) (p ports : ℕ) → p < ports → s.mask < 2 ^ ports → (insert_of s p).providers.mask < 2 ^ ports
 insert_mask s p ports l h = go (contains s p) (room s p)
@@ -138,7 +135,7 @@ pub orders_most_lem : {ports chargers k : ℕ} {p : Phase} {m : Memory} → At p
 orders_most_lem {ports} {chargers} {k} {p} h = omega (arith, most p h.fits, h.most)
   where
     first : (i : ℕ) (b : Bool) → ltb i chargers && b ≡ true → i < chargers
-    first i b e = ltb-true i chargers (and_left (ltb i chargers) b e)
+    first i b e = ltb-true i chargers (and_parts (ltb i chargers) b e).0
 
     most : (q : Phase) → phase_fits ports chargers q ≡ true → orders_most chargers q ≤ 3 + 4 * chargers
     most (Phase.Closed a) e = omega arith
@@ -195,7 +192,7 @@ module _ (g : Registration) (limits : Limits g) (r : Records) where
 
       go : (b : Bool) → ltb j g.chargers ≡ b → TurnGood g k (cond b (at (Phase.Switching (Leaver.Charger j) old f new) m) (connect_psu_of (told_switch m old f new) new r))
       go true e = record {
-        fits = both (ltb j g.chargers) (ltb old g.ports && ltb new.psu g.ports) e (both (ltb old g.ports) (ltb new.psu g.ports) o c.port);
+        fits = and_from (ltb j g.chargers) (ltb old g.ports && ltb new.psu g.ports) e (and_from (ltb old g.ports) (ltb new.psu g.ports) o c.port);
         typed = c.capability;
         least = omega arith;
         most = omega (arith, next_from_lem r (g.chargers - i) i);
@@ -205,7 +202,7 @@ module _ (g : Registration) (limits : Limits g) (r : Records) where
       go false e =
           connect_psu_good (told_switch m old f new) new k
           (record { state = h.state; notices = told_disconnected g.ports old (reason_of old new f) m.notices o h.notices }) c
-          (and_right (not_disconnected m.notices.disconnected) (not_connected m.notices) t)
+          (and_parts (not_disconnected m.notices.disconnected) (not_connected m.notices) t).1
           (omega arith)
 
   disconnect_good : (m : Memory) (old : ℕ) (f : DisconnectFlags) (new : AvailableConsumer) → MemoryGood g.ports m → ltb old g.ports ≡ true → ConsumerGood g.ports new →
@@ -216,13 +213,13 @@ module _ (g : Registration) (limits : Limits g) (r : Records) where
       left = record { state = no_consumer_lem g.ports m.state h.state; notices = h.notices }
 
       go : (b : Bool) → TurnGood g 0 (cond b (at (Phase.Switching Leaver.Psu old f new) (cleared m)) (switch_of g (cleared m) 0 old f new r))
-      go true = record { fits = both (ltb old g.ports) (ltb new.psu g.ports) o c.port; typed = c.capability; least = omega arith; most = omega arith; memory = left; told = t }
+      go true = record { fits = and_from (ltb old g.ports) (ltb new.psu g.ports) o c.port; typed = c.capability; least = omega arith; most = omega arith; memory = left; told = t }
       go false = switch_good (cleared m) 0 old f new 0 left o c t (omega arith) (omega arith)
 
   connect_from_good : (current : Option AvailableConsumer) (m : Memory) (new : AvailableConsumer) (f : DisconnectFlags) → MemoryGood g.ports m → consumer_fits g.ports current ≡ true → ConsumerGood g.ports new →
       not_updated m.notices ≡ true → TurnGood g 0 (connect_from current g m new f r)
   connect_from_good None m new f h o c t =
-      connect_psu_good m new 0 h c (and_right (not_disconnected m.notices.disconnected) (not_connected m.notices) t) (omega arith)
+      connect_psu_good m new 0 h c (and_parts (not_disconnected m.notices.disconnected) (not_connected m.notices) t).1 (omega arith)
   connect_from_good (Some d) m new f h o c t = go (same_available d new)
     where
       go : (b : Bool) → TurnGood g 0 (cond b (finish_update_of g m r) (disconnect_of g m d.psu f new r))
@@ -238,7 +235,7 @@ module _ (g : Registration) (limits : Limits g) (r : Records) where
 
       go : (b : Bool) → ltb j g.chargers ≡ b → TurnGood g k (cond b (at (Phase.Leaving j p f) m) (finish_update_of g (left_of m p f) r))
       go true e = record {
-        fits = both (ltb j g.chargers) (ltb p g.ports) e o;
+        fits = and_from (ltb j g.chargers) (ltb p g.ports) e o;
         typed = tt;
         least = omega arith;
         most = omega (arith, next_from_lem r (g.chargers - i) i);
@@ -257,9 +254,9 @@ module _ (g : Registration) (limits : Limits g) (r : Records) where
       go : (b : Bool) → ltb i g.chargers ≡ b → (u : Bool) →
           TurnGood g k (cond b (at (Phase.Connecting (charge_stage u i) new) m) (finish_update_of g (told_connected m new) r))
       go true e true =
-          record { fits = both (ltb i g.chargers) (ltb new.psu g.ports) e c.port; typed = c.capability; least = omega arith; most = omega arith; memory = h; told = t }
+          record { fits = and_from (ltb i g.chargers) (ltb new.psu g.ports) e c.port; typed = c.capability; least = omega arith; most = omega arith; memory = h; told = t }
       go true e false =
-          record { fits = both (ltb i g.chargers) (ltb new.psu g.ports) e c.port; typed = c.capability; least = omega arith; most = omega arith; memory = h; told = t }
+          record { fits = and_from (ltb i g.chargers) (ltb new.psu g.ports) e c.port; typed = c.capability; least = omega arith; most = omega arith; memory = h; told = t }
       go false e u =
           finish_good (told_connected m new) k (record { state = h.state; notices = told_connected_lem g.ports new m.notices c h.notices })
           (omega arith)
@@ -271,7 +268,7 @@ module _ (g : Registration) (limits : Limits g) (r : Records) where
 
   -- the best consumer is of a registered port
   chosen_good : (m : Memory) → RecordsFit r → (c : AvailableConsumer) → find_best_consumer g m.state r ≡ Some c → ConsumerGood g.ports c
-  chosen_good m w c e = record { port = lt-ltb c.psu g.ports (below (rw e at x)); capability = and_right (leb c.psu 15) (capability_fits c.consumer_power_capability.capability) (rw e at y) }
+  chosen_good m w c e = record { port = lt-ltb c.psu g.ports (below (rw e at x)); capability = (and_parts (leb c.psu 15) (capability_fits c.consumer_power_capability.capability) (rw e at y)).1 }
     where
       x : Chosen g.config.min_consumer_threshold_mw m.state.current_consumer_state r.psus (min 16 g.ports) (find_best_consumer g m.state r)
       x = chosen g.config.min_consumer_threshold_mw m.state.current_consumer_state r.psus (min 16 g.ports)
@@ -386,10 +383,10 @@ module _ (g : Registration) (limits : Limits g) (r : Records) where
   stage_good (Stage.Initializing i) new m k h =
       record { fits = h.fits; typed = h.typed; least = omega (arith, h.least); most = omega (arith, h.most); memory = h.memory; told = h.told }
   stage_good (Stage.Attaching i) new m k h =
-      let l : i < g.chargers = ltb-true i g.chargers (and_left (ltb i g.chargers) (ltb new.psu g.ports) h.fits) in
+      let l : i < g.chargers = ltb-true i g.chargers (and_parts (ltb i g.chargers) (ltb new.psu g.ports) h.fits).0 in
       rw (follow i l)
       (charge_good m (suc i) new k h.memory
-      (record { port = and_right (ltb i g.chargers) (ltb new.psu g.ports) h.fits; capability = h.typed })
+      (record { port = (and_parts (ltb i g.chargers) (ltb new.psu g.ports) h.fits).1; capability = h.typed })
       h.told
       (omega (arith, h.least))
       (omega (arith, h.most))
@@ -398,21 +395,21 @@ module _ (g : Registration) (limits : Limits g) (r : Records) where
   after_good : (p : Phase) (m : Memory) (k : ℕ) → At g.ports g.chargers k p m → TurnGood g k (after_order g p m r)
   after_good (Phase.Closed a) m k h = closed_good a m k h.fits h.memory h.most
   after_good (Phase.Leaving i p f) m k h =
-      let l : i < g.chargers = ltb-true i g.chargers (and_left (ltb i g.chargers) (ltb p g.ports) h.fits) in
+      let l : i < g.chargers = ltb-true i g.chargers (and_parts (ltb i g.chargers) (ltb p g.ports) h.fits).0 in
       rw (follow i l)
-      (leave_good m (suc i) p f k h.memory (and_right (ltb i g.chargers) (ltb p g.ports) h.fits) h.told (omega (arith, h.most)) (omega (arith, l)))
+      (leave_good m (suc i) p f k h.memory (and_parts (ltb i g.chargers) (ltb p g.ports) h.fits).1 h.told (omega (arith, h.most)) (omega (arith, l)))
   after_good (Phase.Switching Leaver.Psu old f new) m k h =
-      switch_good m 0 old f new k h.memory (and_left (ltb old g.ports) (ltb new.psu g.ports) h.fits)
-      (record { port = and_right (ltb old g.ports) (ltb new.psu g.ports) h.fits; capability = h.typed })
+      switch_good m 0 old f new k h.memory (and_parts (ltb old g.ports) (ltb new.psu g.ports) h.fits).0
+      (record { port = (and_parts (ltb old g.ports) (ltb new.psu g.ports) h.fits).1; capability = h.typed })
       h.told
       (omega (arith, h.most))
       (omega arith)
   after_good (Phase.Switching (Leaver.Charger i) old f new) m k h =
-      let l : i < g.chargers = ltb-true i g.chargers (and_left (ltb i g.chargers) (ltb old g.ports && ltb new.psu g.ports) h.fits) in
-      let o : ltb old g.ports && ltb new.psu g.ports ≡ true = and_right (ltb i g.chargers) (ltb old g.ports && ltb new.psu g.ports) h.fits in
+      let l : i < g.chargers = ltb-true i g.chargers (and_parts (ltb i g.chargers) (ltb old g.ports && ltb new.psu g.ports) h.fits).0 in
+      let o : ltb old g.ports && ltb new.psu g.ports ≡ true = (and_parts (ltb i g.chargers) (ltb old g.ports && ltb new.psu g.ports) h.fits).1 in
       rw (follow i l)
-      (switch_good m (suc i) old f new k h.memory (and_left (ltb old g.ports) (ltb new.psu g.ports) o)
-      (record { port = and_right (ltb old g.ports) (ltb new.psu g.ports) o; capability = h.typed })
+      (switch_good m (suc i) old f new k h.memory (and_parts (ltb old g.ports) (ltb new.psu g.ports) o).0
+      (record { port = (and_parts (ltb old g.ports) (ltb new.psu g.ports) o).1; capability = h.typed })
       h.told
       (omega (arith, h.most))
       (omega (arith, l)))

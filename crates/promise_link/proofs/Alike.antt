@@ -37,6 +37,7 @@ use Rattle.promise_link.proofs.Places.{Has, has_bounds}
 use Rattle.promise_link.proofs.Lists.{readable}
 use Rattle.promise_link.proofs.Ring.{one_none, one_below, from_next, short, none_from, dropped_from, one_there, one_here, after_here}
 use Rattle.promise_link.proofs.Order.{held_again, put-from, held-least, greatest-is, greatest_above, above_from}
+use Rattle.desk_follower.proofs.Places.{each_none}
 
 -- in turn
 
@@ -265,26 +266,12 @@ some_held (suc k) h e = go (none_held k h) refl (eqb (packet_at h k).number 0) r
         let v = r p in
         (v.0, omega (arith, v.1), v.2)
 
-none_held_lem : (k : ℕ) (h : Held) → none_held k h ≡ true → (i : ℕ) → i < k → (packet_at h i).number ≡ 0
-unfolding none_held
-none_held_lem zero h e i l = absurd (omega arith)
-none_held_lem (suc k) h e i l = go (none_held k h) refl (eqb (packet_at h k).number 0) refl (none_held_lem k h) e (eqb i k) refl
-  where
-    go : (x : Bool) → none_held k h ≡ x → (y : Bool) → eqb (packet_at h k).number 0 ≡ y →
-        (none_held k h ≡ true → (j : ℕ) → j < k → (packet_at h j).number ≡ 0) → x && y ≡ true → (t : Bool) → eqb i k ≡ t → (packet_at h i).number ≡ 0
-    go true p true q r z true t = ap (λ (j : ℕ). (packet_at h j).number) (eqb-true i k t) ∙ eqb-true _ _ q
-    go true p true q r z false t =
-        let d : i ≡ k → ⊥ = eqb-false i k t in
-        r p i (omega (arith, d))
-    go true p false q r z t s = absurd (cc)
-    go false p y q r z t s = absurd (cc)
-
 module _ (s : Picture) (h : Held) (w : Within (s.number + 2) (s.number + 8) h) where
   none_waits : none_held 8 h ≡ true → held_from h (s.number + 2) 7 ≡ []
   unfolding held_from
   none_waits e =
       short h 7 zero (s.number + 2) (omega arith)
-      (λ m l. one_none h m (λ has. absurd (omega (arith, l, has, none_held_lem 8 h e (m % 8) (mod8 m)))))
+      (λ m l. one_none h m (λ has. absurd (omega (arith, l, has, each_none 8 h e (m % 8) (mod8 m)))))
 
   some_wait : none_held 8 h ≡ false → held_from h (s.number + 2) 7 ≡ [] → ⊥
   some_wait e z =

@@ -16,7 +16,7 @@ use Rattle.wire.specs.Bytes.{packet_bytes}
 use Rattle.wire.specs.Read.{read_packet}
 use Rattle.wire.specs.WellFormed.{well_formed, notices_fit, event_fits, picture_fits}
 use Rattle.wire.proofs.OnePacket.{read_write}
-use Rattle.power_policy_interface.proofs.Conjunction.{and_left, and_right}
+use Rattle.std.proofs.lemmas.Bool.{and_parts}
 use Rattle.desk_follower.specs.Follower.{taken}
 use Rattle.desk_follower.specs.WellFormed.{Readable}
 use Rattle.desk_follower.specs.declared.Follower.{Follower}
@@ -37,12 +37,12 @@ readable (Packet.Event e) w =
     let orders : Bool = leb e.orders 35 && last in
     let answer : Bool = leb e.answer 10 && orders in
     let number : Bool = leb e.number 4294967295 in
-    let x : number && answer ≡ true = and_right (ltb 0 e.number) (number && answer) w in
-    let y : answer ≡ true = and_right number answer x in
-    let z : orders ≡ true = and_right (leb e.answer 10) orders y in
-    let v : last ≡ true = and_right (leb e.orders 35) last z in
-    (leb-true e.number 4294967295 (and_left number answer x), and_left (padded e.notices) (notices_fit (listed e.notices)) v)
-readable (Packet.Picture p) w = leb-true p.number 4294967295 (and_left (leb p.number 4294967295) _ w)
+    let x : number && answer ≡ true = (and_parts (ltb 0 e.number) (number && answer) w).1 in
+    let y : answer ≡ true = (and_parts number answer x).1 in
+    let z : orders ≡ true = (and_parts (leb e.answer 10) orders y).1 in
+    let v : last ≡ true = (and_parts (leb e.orders 35) last z).1 in
+    (leb-true e.number 4294967295 (and_parts number answer x).0, (and_parts (padded e.notices) (notices_fit (listed e.notices)) v).0)
+readable (Packet.Picture p) w = leb-true p.number 4294967295 (and_parts (leb p.number 4294967295) _ w).0
 
 module _ (source : Source) where
   pub read_back : (p : Packet) (b : List ℕ) → source.Written p → b ≡ packet_bytes p → read_packet b ≡ Ok p

@@ -7,7 +7,7 @@ use mathlib.Core.List.{List, []}
 use Prim.Native.Nat.{ℕ, zero, suc, ◌+◌, ◌*◌, ◌<◌, ◌≤◌}
 use native.Mathlib.Omega.{arith}
 use lib.Dec.{leb, eqb}
-use borrow.Author.Tests.{le-leb, leb-false, eqb-true, eqb-false}
+use borrow.Author.Tests.{le-leb, leb-false, eqb-true}
 use Rattle.power_policy_interface.specs.declared.psu.Error.{Error}
 use Rattle.power_policy_interface.specs.declared.service.event.Event.{Event}
 use Rattle.interface_display.specs.Notices.{applied_all}
@@ -40,11 +40,14 @@ use Rattle.machine_service.specs.declared.Service.{Service}
 use Rattle.machine_follows.specs.Machine.{held_of, listed, rest, stands_at, stands_for, Fits}
 use Rattle.machine_follows.proofs.Follows.{opened, leaving_answered, switching_answered, connecting_answered, providing_answered}
 use Rattle.machine_follows.proofs.Kept.{FitsTurn, opened_fits, answered_fits}
-use Rattle.machine_follows.proofs.Serves.{service, service_at, closed_answer, open_answer, moved_to, last_not_refused, below}
+use Rattle.machine_follows.proofs.Serves.{service, service_at, closed_answer, open_answer, moved_to, none_refused, below}
 use Rattle.promise_run.specs.Run.{after_call, CallFits}
 use Rattle.promise_run.specs.Demands.{stand_of}
 use Rattle.promise_run.specs.Sized.{RecordsFit}
 use Rattle.promise_run.proofs.Sized.{StateFits, HeldFits, Sized, event_sized}
+use Rattle.std.proofs.lemmas.Bool.{true≢false}
+use native.Mathlib.Nat.{add-zero}
+use native.Mathlib.Numerals.{add-one}
 
 -- what the event closed last has left
 pub record Last : Type 0 where
@@ -122,19 +125,13 @@ next_held given (ask o k) held = held
 
 -- the end of an accepted call: both proceed
 
-more_none : (n : ℕ) → n + 0 ≡ n
-more_none n = omega arith
-
-one_more : (n : ℕ) → suc n ≡ n + 1
-one_more n = omega arith
-
 pub proceeds_both : (g : Registration) (number given more : ℕ) (p : Phase) (m : Memory) (held : Last) (before : InternalState) → Limits g → number < 4294967295 →
     Fits g.chargers p m.notices → AtMost more (stands_at g p m) → given + more ≤ 35 → Carries (display_of held.state) (stands_at g p m) → Sized (stands_at g p m) →
     Runs (service_at g number given p m) (next_held given (stands_at g p m) held) (next_before (stands_at g p m) held before)
 proceeds_both g number given more (Phase.Closed a) m held before le nb f am su ca sz = record {
   limits = le;
   number = omega (arith, nb);
-  state = record { same = ap (λ n. last_of n a (held_of m)) (more_none given); few = omega (arith, su); leads = λ e. ends_ok (Leads (display_of held.state)) a (held_of m) ca e; sized = sz };
+  state = record { same = ap (λ n. last_of n a (held_of m)) (add-zero given); few = omega (arith, su); leads = λ e. ends_ok (Leads (display_of held.state)) a (held_of m) ca e; sized = sz };
 }
 proceeds_both g number given more (Phase.Leaving i p x) m held before le nb f am su ca sz = record {
   limits = le;
@@ -161,10 +158,10 @@ proceeds_both g number given more (Phase.Providing p c) m held before le nb f am
 pub proceeds_same : (g : Registration) (number given : ℕ) (p : Phase) (m : Memory) (q : Policy) → q.registration ≡ g → q.number ≡ number →
     proceeds q given (stands_at g p m) ≡ policy_of (service_at g number given p m) (next_held given (stands_at g p m) (record { state = q.state; answer = q.answer; orders = q.orders; notices = q.notices }))
 proceeds_same g number given (Phase.Closed a) m q eg en = λ i. record { registration = eg i; number = suc (en i); state = m.state; answer = a; orders = given; notices = listed m.notices; stand = between }
-proceeds_same g number given (Phase.Leaving j p f) m q eg en = λ i. record { registration = eg i; number = en i; state = q.state; answer = q.answer; orders = q.orders; notices = q.notices; stand = stand_of (one_more given i) (stands_at g (Phase.Leaving j p f) m) }
-proceeds_same g number given (Phase.Switching l old f new) m q eg en = λ i. record { registration = eg i; number = en i; state = q.state; answer = q.answer; orders = q.orders; notices = q.notices; stand = stand_of (one_more given i) (stands_at g (Phase.Switching l old f new) m) }
-proceeds_same g number given (Phase.Connecting s new) m q eg en = λ i. record { registration = eg i; number = en i; state = q.state; answer = q.answer; orders = q.orders; notices = q.notices; stand = stand_of (one_more given i) (stands_at g (Phase.Connecting s new) m) }
-proceeds_same g number given (Phase.Providing p c) m q eg en = λ i. record { registration = eg i; number = en i; state = q.state; answer = q.answer; orders = q.orders; notices = q.notices; stand = stand_of (one_more given i) (stands_at g (Phase.Providing p c) m) }
+proceeds_same g number given (Phase.Leaving j p f) m q eg en = λ i. record { registration = eg i; number = en i; state = q.state; answer = q.answer; orders = q.orders; notices = q.notices; stand = stand_of (sym (add-one given) i) (stands_at g (Phase.Leaving j p f) m) }
+proceeds_same g number given (Phase.Switching l old f new) m q eg en = λ i. record { registration = eg i; number = en i; state = q.state; answer = q.answer; orders = q.orders; notices = q.notices; stand = stand_of (sym (add-one given) i) (stands_at g (Phase.Switching l old f new) m) }
+proceeds_same g number given (Phase.Connecting s new) m q eg en = λ i. record { registration = eg i; number = en i; state = q.state; answer = q.answer; orders = q.orders; notices = q.notices; stand = stand_of (sym (add-one given) i) (stands_at g (Phase.Connecting s new) m) }
+proceeds_same g number given (Phase.Providing p c) m q eg en = λ i. record { registration = eg i; number = en i; state = q.state; answer = q.answer; orders = q.orders; notices = q.notices; stand = stand_of (sym (add-one given) i) (stands_at g (Phase.Providing p c) m) }
 
 -- one call
 
@@ -257,16 +254,6 @@ open_is n g (Phase.Switching l old f new) m = refl
 open_is n g (Phase.Connecting s new) m = refl
 open_is n g (Phase.Providing p c) m = refl
 
-registered : (a b c d : Bool) → (let n : ℕ = cond a 23 (cond b 24 (cond c 25 (cond d 28 0))) in n ≡ 0) → a ≡ false
-registered true b c d e = absurd (omega (arith, e))
-registered false b c d e = refl
-
-not_open : (a b c d : Bool) → (let n : ℕ = cond a 23 (cond b 24 (cond c 25 (cond d 28 0))) in n ≡ 0) → c ≡ false
-not_open true b c d e = absurd (omega (arith, e))
-not_open false true c d e = absurd (omega (arith, e))
-not_open false false true d e = absurd (omega (arith, e))
-not_open false false false d e = refl
-
 module _ (g : Registration) (number k : ℕ) (kind device detail : ℕ) (r : Records) where
   abbrev conditions : Bool → ℕ
   conditions waits = first_refused (open_conditions g.ports g.chargers waits number kind device detail)
@@ -307,10 +294,10 @@ module _ (g : Registration) (number k : ℕ) (kind device detail : ℕ) (r : Rec
           ∙ ap (λ b. cond b (policy_of s held) (proceeds (policy_of s held) 0 i)) ey))
       go true ex false ey =
           let nr : not_registered g.ports g.chargers kind device ≡ false =
-          registered (not_registered g.ports g.chargers kind device) (unknown_event kind detail) false (numbers_used kind number) (eqb-true (conditions false) 0 ex) in
+          (none_refused (not_registered g.ports g.chargers kind device) (unknown_event kind detail) false (numbers_used kind number) (eqb-true (conditions false) 0 ex)).0 in
           let lp : leb g.ports device ≡ false = sym (ap (λ b. cond b (leb g.chargers device) (leb g.ports device)) ey) ∙ nr in
           let port : leb device 15 ≡ true = le-leb device 15 (omega (arith, leb-false g.ports device lp, le.ports)) in
-          let lt : number < 4294967295 = below number (eqb kind 5) ey nb (last_not_refused (not_registered g.ports g.chargers kind device) (unknown_event kind detail) false (numbers_used kind number) (eqb-true (conditions false) 0 ex)) in
+          let lt : number < 4294967295 = below number (eqb kind 5) ey nb (none_refused (not_registered g.ports g.chargers kind device) (unknown_event kind detail) false (numbers_used kind number) (eqb-true (conditions false) 0 ex)).3 in
           subst (λ z. Went s held before (open_event kind device detail r) z)
           (sym (ap (λ b. (cond b (cond (eqb kind 5) (stepped (Ok (Step.Closed (Ok tt) 0)) s) (opened_of s device (event_of kind detail) r)) (refused (conditions false) s)).service) ex
           ∙ (ap (λ b. (cond b (stepped (Ok (Step.Closed (Ok tt) 0)) s) (opened_of s device (event_of kind detail) r)).service) ey
@@ -340,7 +327,7 @@ module _ (g : Registration) (number k : ℕ) (kind device detail : ℕ) (r : Rec
       at-policy = ap (λ b. cond (eqb (conditions b) 0) (cond (eqb kind 5) (policy_of s held) (proceeds (policy_of s held) 0 i)) (policy_of s held)) (open_is k g p m ∙ io)
 
       go : (x : Bool) → eqb (conditions true) 0 ≡ x → Went s held before (open_event kind device detail r) (open_of s kind device detail r).service
-      go true ex = absurd (eqb-false 0 0 (not_open (not_registered g.ports g.chargers kind device) (unknown_event kind detail) true (numbers_used kind number) (eqb-true (conditions true) 0 ex)) refl)
+      go true ex = absurd (true≢false (none_refused (not_registered g.ports g.chargers kind device) (unknown_event kind detail) true (numbers_used kind number) (eqb-true (conditions true) 0 ex)).2)
       go false ex =
           subst (λ z. Went s held before (open_event kind device detail r) z)
           (sym (at-machine ∙ ap (λ b. (cond b (cond (eqb kind 5) (stepped (Ok (Step.Closed (Ok tt) 0)) s) (opened_of s device (event_of kind detail) r)) (refused (conditions true) s)).service) ex))

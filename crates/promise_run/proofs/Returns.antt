@@ -135,10 +135,10 @@ pushed_on : (n : display.Notices) (l m : List Event) → pushed_all n (l ++ m) �
 pushed_on n [] m = refl
 pushed_on n (e ∷ l) m = pushed_on (pushed n e) l m
 
-provider_pushed : (n : display.Notices) (p : ProviderNotice) → push_provider n p ≡ pushed_all n (of_provider p)
-provider_pushed n ProviderNotice.None = refl
-provider_pushed n (ProviderNotice.Disconnected p) = refl
-provider_pushed n (ProviderNotice.Connected p c) = refl
+provider_pushed : (n : display.Notices) (p : Option ProviderNotice) → push_provider n p ≡ pushed_all n (of_provider p)
+provider_pushed n None = refl
+provider_pushed n (Some (ProviderNotice.Disconnected p)) = refl
+provider_pushed n (Some (ProviderNotice.Connected p c)) = refl
 
 disconnected_pushed : (n : display.Notices) (d : Option Disconnected) → push_disconnected n d ≡ pushed_all n (of_disconnected d)
 disconnected_pushed n None = refl

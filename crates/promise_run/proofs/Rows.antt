@@ -2,7 +2,7 @@
 -- figures.
 use Rattle.std.specs.Prelude.{None, Option, Some}
 use Rattle.std.specs.Option.{option_map}
-use mathlib.Core.Path.{◌≡◌, refl, subst}
+use mathlib.Core.Path.{◌≡◌, subst}
 use mathlib.Core.Bool.{Bool, true, false, cond, ◌&&◌}
 use mathlib.Core.List.{List, [], ◌∷◌, ◌++◌}
 use Rattle.power_policy_interface.specs.declared.capability.ConsumerFlags.{ConsumerFlags}
@@ -10,12 +10,11 @@ use Rattle.power_policy_interface.specs.declared.capability.ConsumerPowerCapabil
 use Rattle.power_policy_interface.specs.declared.capability.ProviderFlags.{ProviderFlags}
 use Rattle.power_policy_interface.specs.declared.capability.ProviderPowerCapability.{ProviderPowerCapability}
 use Rattle.power_policy_interface.specs.declared.psu.PsuState.{PsuState}
-use Prim.Native.Nat.{ℕ, zero, suc, ◌+◌, ◌-◌, ◌*◌, ◌<◌, ◌≤◌}
+use Prim.Native.Nat.{ℕ, zero, suc, ◌-◌, ◌*◌}
 use native.Mathlib.Omega.{arith}
-use lib.Dec.{leb, ltb, eqb, lit<}
-use lib.ListN.{length, get_or, take, drop, replicate, length-take, get_or-eq_default}
-use lib.Seq.{get_or-drop, get_or-take}
-use borrow.Author.Tests.{le-leb, ltb-true, ltb-false}
+use lib.Dec.{leb, eqb}
+use lib.ListN.{length, get_or, take, drop, replicate}
+use borrow.Author.Tests.{le-leb}
 use Rattle.power_policy_interface.specs.Psu.{default_state}
 use Rattle.power_policy_interface.specs.Capability.{consumer_flags_from, provider_flags_from, capability_fits}
 use Rattle.power_policy_interface.specs.declared.charger.State as charger
@@ -28,27 +27,14 @@ use Rattle.interface_records.proofs.Groups.{Bytes}
 use Rattle.interface_records.proofs.OneRecord.{group_bytes_lem}
 use Rattle.power_policy_service.specs.Rows.{psu_at}
 use Rattle.promise_run.specs.Sized.{OfferFits, RequestFits, PsuFits, RecordsFit}
-use Rattle.promise_run.proofs.Sized.{both}
-
--- bytes in part
-
-drop_bytes : (w : ℕ) (s : List ℕ) → AllBytes s → AllBytes (drop w s)
-drop_bytes w s h k = rw get_or-drop (h (w + k))
-
-take_bytes_lem : (w : ℕ) (s : List ℕ) → AllBytes s → AllBytes (take w s)
-take_bytes_lem w s h k = go (ltb k w) refl
-  where
-    go : (t : Bool) → ltb k w ≡ t → get_or (take w s) k 0 < 256
-    go true e = rw (get_or-take w s k 0 (ltb-true k w e)) (h k)
-    go false e =
-        let q : length (take w s) ≤ k = rw length-take (omega (arith, ltb-false k w e)) in
-        rw (get_or-eq_default (take w s) 0 q) (lit< tt)
+use Rattle.std.proofs.lemmas.Bool.{and_from}
+use Rattle.interface_records.proofs.OneRow.{drop_bytes, take_bytes_lem}
 
 -- a group
 
 group_fits : (g : Group) → Bytes g → capability_fits (capability_from g) ≡ true
 group_fits g b =
-    both (leb (capability_from g).voltage_mv 65535) (leb (capability_from g).current_ma 65535)
+    and_from (leb (capability_from g).voltage_mv 65535) (leb (capability_from g).current_ma 65535)
     (le-leb (capability_from g).voltage_mv 65535 (omega (arith, b.v0, b.v1)))
     (le-leb (capability_from g).current_ma 65535 (omega (arith, b.c0, b.c1)))
 

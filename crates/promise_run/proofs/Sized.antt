@@ -1,7 +1,7 @@
 -- What is held and told stays within its ranges: each change of an event takes its figures from the state, the configuration or the records.
 use Rattle.std.specs.Prelude.{Err, None, Ok, Option, Result, Some}
 use mathlib.Core.Path.{◌≡◌, refl, sym, ap, ◌∙◌, subst}
-use mathlib.Core.Bool.{Bool, true, false, cond, ◌&&◌}
+use mathlib.Core.Bool.{Bool, true, false, cond}
 use mathlib.Core.List.{List, [], ◌∷◌, ◌++◌}
 use Prim.Native.Nat.{ℕ, zero, suc, min, ◌<◌, ◌≤◌}
 use native.Mathlib.Nat.{min-le_left}
@@ -38,7 +38,7 @@ use Rattle.abstract_policy.specs.declared.state.Records.{Records}
 use Rattle.abstract_policy.specs.declared.state.Registration.{Registration}
 use Rattle.abstract_policy.specs.declared.order.Order.{Order}
 use Rattle.wire.specs.WellFormed.{contract_fits, notice_fits, notices_fit, consumer_fits}
-use Rattle.power_policy_interface.proofs.Conjunction.{and_left, and_right}
+use Rattle.std.proofs.lemmas.Bool.{and_parts, and_from}
 use Rattle.promise_run.specs.Sized.{OfferFits, RequestFits, PsuFits, RecordsFit}
 
 -- what is held and told
@@ -60,13 +60,10 @@ abbrev pub Sized : Interaction → Type 0
 Sized (done a h) = HeldFits h
 Sized (ask o k) = (a : Result (Unit {0}) Error) (r : Records) → RecordsFit r → Sized (k a r)
 
-pub both : (a b : Bool) → a ≡ true → b ≡ true → a && b ≡ true
-both a b p q = rw (p, q)
-
 fits_last : (l : List Event) (e : Event) → notices_fit l ≡ true → notice_fits e ≡ true → notices_fit (l ++ (e ∷ [])) ≡ true
-fits_last [] e p q = both (notice_fits e) true q refl
+fits_last [] e p q = and_from (notice_fits e) true q refl
 fits_last (x ∷ l) e p q =
-    both (notice_fits x) (notices_fit (l ++ (e ∷ []))) (and_left (notice_fits x) (notices_fit l) p) (fits_last l e (and_right (notice_fits x) (notices_fit l) p) q)
+    and_from (notice_fits x) (notices_fit (l ++ (e ∷ []))) (and_parts (notice_fits x) (notices_fit l) p).0 (fits_last l e (and_parts (notice_fits x) (notices_fit l) p).1 q)
 
 -- an action keeps what is held and told within its ranges
 
@@ -155,7 +152,7 @@ consumer_set : (c : Option AvailableConsumer) → consumer_fits c ≡ true → (
 consumer_set c e s p = record { consumer = e; available = p.available; tracks = p.tracks }
 
 port_fits_lem : (c : AvailableConsumer) → ConsumerFits c → leb c.psu 15 ≡ true
-port_fits_lem c e = and_left (leb c.psu 15) (capability_fits c.consumer_power_capability.capability) e
+port_fits_lem c e = (and_parts (leb c.psu 15) (capability_fits c.consumer_power_capability.capability) e).0
 
 connected : (g : Registration) (new : AvailableConsumer) → ConsumerFits new → Keeps (post_consumer_connected g new)
 unfolding post_consumer_connected
@@ -222,7 +219,7 @@ best_fits m current r n l w = go (best_of m current r.psus n) (chosen m current 
     go None c = refl
     go (Some c) b =
         let p : c.psu < n = b.offer.registered in
-        both (leb c.psu 15) (capability_fits c.consumer_power_capability.capability) (le-leb c.psu 15 (omega (arith, p, l)))
+        and_from (leb c.psu 15) (capability_fits c.consumer_power_capability.capability) (le-leb c.psu 15 (omega (arith, p, l)))
         (eligible_fits m (psu_at r.psus c.psu).consumer_capability c.consumer_power_capability b.offer.offered (w c.psu (omega (arith, p, l))).0)
 
 pub psu_fits : (r : Records) (p : ℕ) → RecordsFit r → PsuFits (psu_of r p)
@@ -278,7 +275,7 @@ module _ (g : Registration) (config : ConfigFits g.config) (ports : g.ports ≤ 
       (λ s r q w. then
       (sets (with_providers (insert_of s.connected_providers p).providers)
       (λ x z. record { consumer = z.consumer; available = z.available; tracks = insert_tracks s.connected_providers p q.tracks }))
-      (notifies (Event.ProviderConnected p c) (both (leb p 15) (capability_fits c.capability) l e)))
+      (notifies (Event.ProviderConnected p c) (and_from (leb p 15) (capability_fits c.capability) l e)))
 
   provides : (p : ℕ) (q : Option ProviderPowerCapability) → leb p 15 ≡ true → RequestFits q → Keeps (provide g p q)
   unfolding provide

@@ -38,37 +38,37 @@ use Rattle.machine_follows.proofs.Serves.{service}
 use Rattle.wire.specs.WellFormed.{notices_fit, consumer_fits, event_fits, picture_fits, well_formed}
 use Rattle.promise_link.specs.Source.{number_in}
 use Rattle.promise_run.specs.Run.{after_call, Sends, HasSent, CallsFit}
-use Rattle.promise_run.proofs.Sized.{both}
 use Rattle.promise_run.proofs.Matches.{Last, policy_of, Closed, StateAt, Runs, Moved, stays, asks, closes, goes}
+use Rattle.std.proofs.lemmas.Bool.{and_from, true≢false}
 
 -- the notices of a packet are those of the event, in order
 
-listed_with : (p : ProviderNotice) (d : Option Disconnected) (c : Option AvailableConsumer) (u : Option UnconstrainedState) →
+listed_with : (p : Option ProviderNotice) (d : Option Disconnected) (c : Option AvailableConsumer) (u : Option UnconstrainedState) →
     display.listed (notices_of (notices_with p d c u)) ≡ listed (notices_with p d c u)
-listed_with ProviderNotice.None None None None = refl
-listed_with ProviderNotice.None None None (Some u) = refl
-listed_with ProviderNotice.None None (Some c) None = refl
-listed_with ProviderNotice.None None (Some c) (Some u) = refl
-listed_with ProviderNotice.None (Some x) None None = refl
-listed_with ProviderNotice.None (Some x) None (Some u) = refl
-listed_with ProviderNotice.None (Some x) (Some c) None = refl
-listed_with ProviderNotice.None (Some x) (Some c) (Some u) = refl
-listed_with (ProviderNotice.Disconnected a) None None None = refl
-listed_with (ProviderNotice.Disconnected a) None None (Some u) = refl
-listed_with (ProviderNotice.Disconnected a) None (Some c) None = refl
-listed_with (ProviderNotice.Disconnected a) None (Some c) (Some u) = refl
-listed_with (ProviderNotice.Disconnected a) (Some x) None None = refl
-listed_with (ProviderNotice.Disconnected a) (Some x) None (Some u) = refl
-listed_with (ProviderNotice.Disconnected a) (Some x) (Some c) None = refl
-listed_with (ProviderNotice.Disconnected a) (Some x) (Some c) (Some u) = refl
-listed_with (ProviderNotice.Connected a b) None None None = refl
-listed_with (ProviderNotice.Connected a b) None None (Some u) = refl
-listed_with (ProviderNotice.Connected a b) None (Some c) None = refl
-listed_with (ProviderNotice.Connected a b) None (Some c) (Some u) = refl
-listed_with (ProviderNotice.Connected a b) (Some x) None None = refl
-listed_with (ProviderNotice.Connected a b) (Some x) None (Some u) = refl
-listed_with (ProviderNotice.Connected a b) (Some x) (Some c) None = refl
-listed_with (ProviderNotice.Connected a b) (Some x) (Some c) (Some u) = refl
+listed_with None None None None = refl
+listed_with None None None (Some u) = refl
+listed_with None None (Some c) None = refl
+listed_with None None (Some c) (Some u) = refl
+listed_with None (Some x) None None = refl
+listed_with None (Some x) None (Some u) = refl
+listed_with None (Some x) (Some c) None = refl
+listed_with None (Some x) (Some c) (Some u) = refl
+listed_with (Some (ProviderNotice.Disconnected a)) None None None = refl
+listed_with (Some (ProviderNotice.Disconnected a)) None None (Some u) = refl
+listed_with (Some (ProviderNotice.Disconnected a)) None (Some c) None = refl
+listed_with (Some (ProviderNotice.Disconnected a)) None (Some c) (Some u) = refl
+listed_with (Some (ProviderNotice.Disconnected a)) (Some x) None None = refl
+listed_with (Some (ProviderNotice.Disconnected a)) (Some x) None (Some u) = refl
+listed_with (Some (ProviderNotice.Disconnected a)) (Some x) (Some c) None = refl
+listed_with (Some (ProviderNotice.Disconnected a)) (Some x) (Some c) (Some u) = refl
+listed_with (Some (ProviderNotice.Connected a b)) None None None = refl
+listed_with (Some (ProviderNotice.Connected a b)) None None (Some u) = refl
+listed_with (Some (ProviderNotice.Connected a b)) None (Some c) None = refl
+listed_with (Some (ProviderNotice.Connected a b)) None (Some c) (Some u) = refl
+listed_with (Some (ProviderNotice.Connected a b)) (Some x) None None = refl
+listed_with (Some (ProviderNotice.Connected a b)) (Some x) None (Some u) = refl
+listed_with (Some (ProviderNotice.Connected a b)) (Some x) (Some c) None = refl
+listed_with (Some (ProviderNotice.Connected a b)) (Some x) (Some c) (Some u) = refl
 
 pub listed_same : (n : Notices) → display.listed (notices_of n) ≡ listed n
 listed_same n = listed_with n.provider n.disconnected n.connected n.unconstrained
@@ -178,24 +178,21 @@ module _ (H : ℕ → Display) where
       go true ex z = absurd z
       go false ex z = (ex, z)
 
-  not_open : {A : Type 0} → true ≡ false → A
-  not_open e = absurd (eqb-false 0 0 e refl)
-
   picture_at : (g : Registration) (number k : ℕ) (p : Phase) (m : Memory) (held : Last) (before : InternalState) → StateAt g number k p m held before → is_open p ≡ false → H number ≡ display_of held.state →
       Tells (Packet.Picture (picture_of (service g number k p m)))
   picture_at g number k (Phase.Closed a) m held before c o h = picture_tells g number k a m held before c h
-  picture_at g number k (Phase.Leaving i p f) m held before c o h = not_open o
-  picture_at g number k (Phase.Switching l old f new) m held before c o h = not_open o
-  picture_at g number k (Phase.Connecting s new) m held before c o h = not_open o
-  picture_at g number k (Phase.Providing p d) m held before c o h = not_open o
+  picture_at g number k (Phase.Leaving i p f) m held before c o h = absurd (true≢false o)
+  picture_at g number k (Phase.Switching l old f new) m held before c o h = absurd (true≢false o)
+  picture_at g number k (Phase.Connecting s new) m held before c o h = absurd (true≢false o)
+  picture_at g number k (Phase.Providing p d) m held before c o h = absurd (true≢false o)
 
   packet_at : (g : Registration) (number k : ℕ) (p : Phase) (m : Memory) (held : Last) (before : InternalState) → StateAt g number k p m held before → is_open p ≡ false → H number ≡ display_of held.state →
       Before (service g number k p m) before → Tells (Packet.Event (packet_of (service g number k p m)))
   packet_at g number k (Phase.Closed a) m held before c o h b = packet_tells g number k a m held before c h b
-  packet_at g number k (Phase.Leaving i p f) m held before c o h b = not_open o
-  packet_at g number k (Phase.Switching l old f new) m held before c o h b = not_open o
-  packet_at g number k (Phase.Connecting s new) m held before c o h b = not_open o
-  packet_at g number k (Phase.Providing p d) m held before c o h b = not_open o
+  packet_at g number k (Phase.Leaving i p f) m held before c o h b = absurd (true≢false o)
+  packet_at g number k (Phase.Switching l old f new) m held before c o h b = absurd (true≢false o)
+  packet_at g number k (Phase.Connecting s new) m held before c o h b = absurd (true≢false o)
+  packet_at g number k (Phase.Providing p d) m held before c o h b = absurd (true≢false o)
 
   writes_tells : (s : Service) (held : Last) (before : InternalState) (c : Call) (p : Packet) → Runs s held before → H s.number ≡ display_of held.state → Before s before → Sends s c p → Tells p
   writes_tells s held before (open_event kind device detail r) p x h b w = absurd w
@@ -283,32 +280,32 @@ module _ (K : ℕ → EventPacket) where
 
 -- each packet and picture has its fields within what is laid out (PKT)
 
-padded_with : (p : ProviderNotice) (d : Option Disconnected) (c : Option AvailableConsumer) (u : Option UnconstrainedState) →
+padded_with : (p : Option ProviderNotice) (d : Option Disconnected) (c : Option AvailableConsumer) (u : Option UnconstrainedState) →
     display.padded (notices_of (notices_with p d c u)) ≡ true
-padded_with ProviderNotice.None None None None = refl
-padded_with ProviderNotice.None None None (Some u) = refl
-padded_with ProviderNotice.None None (Some c) None = refl
-padded_with ProviderNotice.None None (Some c) (Some u) = refl
-padded_with ProviderNotice.None (Some x) None None = refl
-padded_with ProviderNotice.None (Some x) None (Some u) = refl
-padded_with ProviderNotice.None (Some x) (Some c) None = refl
-padded_with ProviderNotice.None (Some x) (Some c) (Some u) = refl
-padded_with (ProviderNotice.Disconnected a) None None None = refl
-padded_with (ProviderNotice.Disconnected a) None None (Some u) = refl
-padded_with (ProviderNotice.Disconnected a) None (Some c) None = refl
-padded_with (ProviderNotice.Disconnected a) None (Some c) (Some u) = refl
-padded_with (ProviderNotice.Disconnected a) (Some x) None None = refl
-padded_with (ProviderNotice.Disconnected a) (Some x) None (Some u) = refl
-padded_with (ProviderNotice.Disconnected a) (Some x) (Some c) None = refl
-padded_with (ProviderNotice.Disconnected a) (Some x) (Some c) (Some u) = refl
-padded_with (ProviderNotice.Connected a b) None None None = refl
-padded_with (ProviderNotice.Connected a b) None None (Some u) = refl
-padded_with (ProviderNotice.Connected a b) None (Some c) None = refl
-padded_with (ProviderNotice.Connected a b) None (Some c) (Some u) = refl
-padded_with (ProviderNotice.Connected a b) (Some x) None None = refl
-padded_with (ProviderNotice.Connected a b) (Some x) None (Some u) = refl
-padded_with (ProviderNotice.Connected a b) (Some x) (Some c) None = refl
-padded_with (ProviderNotice.Connected a b) (Some x) (Some c) (Some u) = refl
+padded_with None None None None = refl
+padded_with None None None (Some u) = refl
+padded_with None None (Some c) None = refl
+padded_with None None (Some c) (Some u) = refl
+padded_with None (Some x) None None = refl
+padded_with None (Some x) None (Some u) = refl
+padded_with None (Some x) (Some c) None = refl
+padded_with None (Some x) (Some c) (Some u) = refl
+padded_with (Some (ProviderNotice.Disconnected a)) None None None = refl
+padded_with (Some (ProviderNotice.Disconnected a)) None None (Some u) = refl
+padded_with (Some (ProviderNotice.Disconnected a)) None (Some c) None = refl
+padded_with (Some (ProviderNotice.Disconnected a)) None (Some c) (Some u) = refl
+padded_with (Some (ProviderNotice.Disconnected a)) (Some x) None None = refl
+padded_with (Some (ProviderNotice.Disconnected a)) (Some x) None (Some u) = refl
+padded_with (Some (ProviderNotice.Disconnected a)) (Some x) (Some c) None = refl
+padded_with (Some (ProviderNotice.Disconnected a)) (Some x) (Some c) (Some u) = refl
+padded_with (Some (ProviderNotice.Connected a b)) None None None = refl
+padded_with (Some (ProviderNotice.Connected a b)) None None (Some u) = refl
+padded_with (Some (ProviderNotice.Connected a b)) None (Some c) None = refl
+padded_with (Some (ProviderNotice.Connected a b)) None (Some c) (Some u) = refl
+padded_with (Some (ProviderNotice.Connected a b)) (Some x) None None = refl
+padded_with (Some (ProviderNotice.Connected a b)) (Some x) None (Some u) = refl
+padded_with (Some (ProviderNotice.Connected a b)) (Some x) (Some c) None = refl
+padded_with (Some (ProviderNotice.Connected a b)) (Some x) (Some c) (Some u) = refl
 
 padded_all : (n : Notices) → display.padded (notices_of n) ≡ true
 padded_all n = padded_with n.provider n.disconnected n.connected n.unconstrained
@@ -331,21 +328,21 @@ packet_fits : (g : Registration) (number k : ℕ) (a : Result (Unit {0}) Error) 
 unfolding event_fits
 packet_fits g number k a m held before c nb nz =
     let n : display.padded (notices_of m.notices) && notices_fit (display.listed (notices_of m.notices)) ≡ true =
-    both (display.padded (notices_of m.notices)) (notices_fit (display.listed (notices_of m.notices))) (padded_all m.notices)
+    and_from (display.padded (notices_of m.notices)) (notices_fit (display.listed (notices_of m.notices))) (padded_all m.notices)
     (ap notices_fit (listed_same m.notices) ∙ c.sized.notices) in
-    both (ltb 0 number) _ (lt-ltb 0 number (omega (arith, eqb-false number 0 nz)))
-    (both (leb number 4294967295) _ (le-leb number 4294967295 nb)
-    (both (leb (answer_byte a) 10) _ (answer_le a) (both (leb k 35) _ (le-leb k 35 c.few) n)))
+    and_from (ltb 0 number) _ (lt-ltb 0 number (omega (arith, eqb-false number 0 nz)))
+    (and_from (leb number 4294967295) _ (le-leb number 4294967295 nb)
+    (and_from (leb (answer_byte a) 10) _ (answer_le a) (and_from (leb k 35) _ (le-leb k 35 c.few) n)))
 
 picture_fits_lem : (g : Registration) (number k : ℕ) (a : Result (Unit {0}) Error) (m : Memory) (held : Last) (before : InternalState) → Closed k a m held before → number ≤ 4294967295 →
     picture_fits (picture_of (service g number k (Phase.Closed a) m)) ≡ true
 unfolding picture_fits
 picture_fits_lem g number k a m held before c nb =
     let t = c.sized.state.tracks in
-    both (leb number 4294967295) _ (le-leb number 4294967295 nb)
-    (both (consumer_fits m.state.current_consumer_state) _ c.sized.state.consumer
-    (both (leb m.state.unconstrained.available 16) _ c.sized.state.available
-    (both (ltb m.state.connected_providers.mask 65536) _ (lt-ltb m.state.connected_providers.mask 65536 t.ports)
+    and_from (leb number 4294967295) _ (le-leb number 4294967295 nb)
+    (and_from (consumer_fits m.state.current_consumer_state) _ c.sized.state.consumer
+    (and_from (leb m.state.unconstrained.available 16) _ c.sized.state.available
+    (and_from (ltb m.state.connected_providers.mask 65536) _ (lt-ltb m.state.connected_providers.mask 65536 t.ports)
     (le-leb (len m.state.connected_providers) 4 t.few))))
 
 packet_fits_at : (g : Registration) (number k : ℕ) (p : Phase) (m : Memory) (held : Last) (before : InternalState) → StateAt g number k p m held before → is_open p ≡ false → number ≤ 4294967295 → eqb number 0 ≡ false →

@@ -5,9 +5,9 @@
 
 ghost use Rattle.std.specs.Prelude.{◌<◌};
 
-use interface_records::group::Group;
+use interface_records::group::{Group, byte};
 use power_policy_interface::capability::{
-    ConsumerFlags, DisconnectFlags, PowerCapability, ProviderFlags, PsuType,
+    ConsumerFlags, DisconnectFlags, ProviderFlags, number_of,
 };
 use power_policy_interface::charger::event::PsuState;
 use power_policy_interface::{charger, psu};
@@ -22,20 +22,54 @@ struct Count {
     first: Option<u64>,
 }
 
-// Whether a vector's answer is the one that the port gives.
-fn agrees(v: &[u8; 49]) -> bool {
-    ask(v[0], &v[1..19], &v[19..25]).is_some_and(|answer| v[25..31] == answer.result[..]
-        && v[31..49] == answer.record[..])
+// The result and the record after it.
+#[derive(Clone, Copy, PartialEq, Eq)]
+struct Answer {
+    result: [u8; 6],
+    record: [u8; 18],
+}
+
+// A vector: what is asked, and the answer to it.
+#[derive(Clone, Copy)]
+struct Vector {
+    // Which call is made, by its number in the vectors: it stands once, at the arm that makes the call. An enum would list each of the 33 twice more, where
+    // it is declared and where the number is read.
+    operation: u8,
+    before: [u8; 18],
+    argument: [u8; 6],
+    answer: Answer,
+}
+
+impl Vector {
+    // What follows the operation.
+    fn read<R: Read>(operation: u8, input: &mut R) -> io::Result<Vector> {
+        let mut v = Vector {
+            operation,
+            before: [0; 18],
+            argument: [0; 6],
+            answer: told(0, 0, 0),
+        };
+        input.read_exact(&mut v.before)?;
+        input.read_exact(&mut v.argument)?;
+        input.read_exact(&mut v.answer.result)?;
+        input.read_exact(&mut v.answer.record)?;
+        Ok(v)
+    }
+
+    // Whether the answer is the one that the port gives.
+    fn agrees(self) -> bool {
+        self.ask() == Some(self.answer)
+    }
 }
 
 // Whether the next vector agrees, if there is one: a last one that is cut short does not.
 fn next<R: Read>(input: &mut R) -> io::Result<Option<bool>> {
-    let mut v = [0u8; 49];
-    if input.read(&mut v[..1])? == 0 {
+    let mut operation = [0u8; 1];
+    if input.read(&mut operation)? == 0 {
         return Ok(None);
     }
-    match input.read_exact(&mut v[1..]) {
-        Ok(()) => Ok(Some(agrees(&v))),
+    match Vector::read(operation[0], input) {
+        Ok(v) => Ok(Some(v.agrees())),
         Err(e) if e.kind() == ErrorKind::UnexpectedEof => Ok(Some(false)),
         Err(e) => Err(e),
     }
@@ -62,13 +96,6 @@ fn count_all<R: Read>(input: &mut R) -> io::Result<Count> {
 
 // The answers of the port.
 
-// The result and the record after it.
-#[derive(Clone, Copy)]
-struct Answer {
-    result: [u8; 6],
-    record: [u8; 18],
-}
-
 // A result of three bytes, and no record.
 fn told(a: u8, b: u8, c: u8) -> Answer {
     Answer {
@@ -77,52 +104,148 @@ fn told(a: u8, b: u8, c: u8) -> Answer {
     }
 }
 
-// None for a vector that the port does not take.
-fn ask(op: u8, record: &[u8], argument: &[u8]) -> Option<Answer> {
-    match op {
-        0..=10 => ask_psu(op, interface_records::psu::read(record)?, argument),
-        11..=18 => ask_charger(
-            op,
-            interface_records::charger::read(front(record))?,
-            argument,
-        ),
-        19..=23 => ask_capability(op, record, argument),
-        _ => ask_bytes(op, record),
+impl Vector {
+    // None for a vector that the port does not take.
+    fn ask(self) -> Option<Answer> {
+        match self.operation {
+            0..=10 => self.ask_psu(interface_records::psu::read(&self.before)?),
+            11..=18 => self.ask_charger(interface_records::charger::read(self.front())?),
+            19..=23 => self.ask_capability(),
+            _ => self.ask_bytes(),
+        }
+    }
+
+    // PSU
+
+    fn ask_psu(self, before: psu::State) -> Option<Answer> {
+        let mut s = before;
+        let result = match self.operation {
+            1 => s.attach(),
+            2 => {
+                s.detach();
+                Ok(())
+            }
+            3 => s.disconnect(self.argument[0] == 1),
+            4 => {
+                let capability = Group::at(&self.argument, 0).option_flagged()?;
+                s.update_consumer_power_capability(capability)
+            }
+            5 => {
+                let capability = Group::at(&self.argument, 0).option_flagged()?;
+                s.update_requested_provider_power_capability(capability)
+            }
+            6 => s.can_connect_consumer(),
+            7 => s.connect_consumer(group(&self.argument).flagged()?),
+            8 => s.can_connect_provider(),
+            9 => s.connect_provider(group(&self.argument).flagged()?),
+            10 => return Some(connected_provider(s)),
+            _ => return None,
+        };
+        Some(after_psu(result, s))
+    }
+
+    // Charger
+
+    fn ask_charger(self, before: charger::State) -> Option<Answer> {
+        let mut s = before;
+        let result = match self.operation {
+            11 => s.on_initialized(PsuState::try_from(self.argument[0]).ok()?),
+            12 => s.on_psu_state_change(PsuState::try_from(self.argument[0]).ok()?),
+            13 => Ok(s.on_timeout()),
+            14 => Ok(s.on_ready_success()),
+            15 => Ok(s.on_ready_failure()),
+            16 => Ok(s.on_policy_attach(group(&self.argument).flagged()?)),
+            17 => Ok(s.on_policy_detach()),
+            18 => return Some(after_charger(told(u8::from(s.is_unpowered()), 0, 0), s)),
+            _ => return None,
+        };
+        Some(after_charger(charger_result(result), s))
+    }
+
+    // Capabilities and defaults
+
+    fn ask_capability(self) -> Option<Answer> {
+        let a = group(&self.before).capability();
+        match self.operation {
+            19 => Some(milliwatts(a.max_power_mw())),
+            20 => Some(told(order(a.cmp(group(&self.argument).capability())), 0, 0)),
+            21 => {
+                let reason = DisconnectFlags::try_from(self.before[0]).ok()?.reason?;
+                Some(told(u8::from(reason.is_renegotiation()), 0, 0))
+            }
+            22 => Some(after_psu(Ok(()), psu::State::default())),
+            23 => Some(after_charger(told(0, 0, 0), charger::State::default())),
+            _ => None,
+        }
+    }
+
+    // Bytes that may be refused: a result of zeros then.
+
+    fn ask_bytes(self) -> Option<Answer> {
+        let first = self.before[0];
+        let taken = match self.operation {
+            24 => interface_records::psu::read(&self.before).map(|s| Answer {
+                record: interface_records::psu::write(s),
+                ..told(1, 0, 0)
+            }),
+            25 => interface_records::charger::read(self.front()).map(|s| after_charger(
+                told(1, 0, 0),
+                s,
+            )),
+            26 => ConsumerFlags::try_from(first).ok().map(|f| told(
+                1,
+                u8::from(f.unconstrained_power),
+                number_of(f.psu_type),
+            )),
+            27 => ProviderFlags::try_from(first)
+                .ok()
+                .map(|f| told(1, 0, number_of(f.psu_type))),
+            28 => {
+                let mut bytes = [0; 400];
+                let row = self.changed(&mut bytes)?;
+                interface_records::psu::read_row(row, first as usize).map(|_| told(1, 0, 0))
+            }
+            29 => {
+                let mut bytes = [0; 400];
+                let row = self.changed(&mut bytes)?;
+                interface_records::charger::read_row(row, first as usize).map(|_| told(1, 0, 0))
+            }
+            30 => DisconnectFlags::try_from(first).ok().map(|_| told(1, 0, 0)),
+            31 => psu::answer_from(first).map(|_| told(1, 0, 0)),
+            32 => PsuState::try_from(first)
+                .ok()
+                .map(|p| told(1, u8::from(p == PsuState::Detached), 0)),
+            _ => return None,
+        };
+        Some(taken.unwrap_or(told(0, 0, 0)))
+    }
+
+    // The front of a row of zeros with one byte changed: count, length, place, value.
+    fn changed<'a>(self, bytes: &'a mut [u8; 400]) -> Option<&'a [u8]> {
+        let [_, length_low, length_high, place_low, place_high, value, ..] = self.before;
+        let length = u16::from_le_bytes([length_low, length_high]);
+        let place = u16::from_le_bytes([place_low, place_high]);
+        if let Some(byte) = bytes.get_mut(usize::from(place)) {
+            *byte = value;
+        }
+        bytes.get(..usize::from(length))
+    }
+
+    // The seven bytes of a charger record.
+    fn front(&self) -> &[u8] {
+        &self.before[..7]
     }
 }
 
-// PSU
-
-fn ask_psu(op: u8, before: psu::State, argument: &[u8]) -> Option<Answer> {
-    let mut s = before;
-    let result = match op {
-        1 => s.attach(),
-        2 => {
-            s.detach();
-            Ok(())
-        }
-        3 => s.disconnect(at(argument, 0) == 1),
-        4 => s.update_consumer_power_capability(Group::at(argument, 0).option_flagged()?),
-        5 => s.update_requested_provider_power_capability(Group::at(argument, 0).option_flagged()?),
-        6 => s.can_connect_consumer(),
-        7 => s.connect_consumer(group(argument).flagged()?),
-        8 => s.can_connect_provider(),
-        9 => s.connect_provider(group(argument).flagged()?),
-        10 => return Some(connected_provider(s)),
-        _ => return None,
-    };
-    Some(after_psu(result, s))
-}
-
 // A capability of five bytes, as the group with a number before it.
-fn group(argument: &[u8]) -> Group {
+fn group(s: &[u8]) -> Group {
     Group {
         number: 1,
-        v0: at(argument, 0),
-        v1: at(argument, 1),
-        c0: at(argument, 2),
-        c1: at(argument, 3),
-        flags: at(argument, 4),
+        v0: byte(s, 0, 0),
+        v1: byte(s, 0, 1),
+        c0: byte(s, 0, 2),
+        c1: byte(s, 0, 3),
+        flags: byte(s, 0, 4),
     }
 }
 
@@ -139,34 +262,10 @@ fn after_psu(answer: Result<(), psu::Error>, s: psu::State) -> Answer {
 }
 
 fn connected_provider(s: psu::State) -> Answer {
-    let g = Group::of_option(s.connected_provider_capability());
     Answer {
-        result: [g.number, g.v0, g.v1, g.c0, g.c1, g.flags],
+        result: Group::of_option(s.connected_provider_capability()).bytes(),
         record: interface_records::psu::write(s),
     }
-}
-
-// Charger
-
-fn ask_charger(op: u8, before: charger::State, argument: &[u8]) -> Option<Answer> {
-    let mut s = before;
-    let result = match op {
-        11 => s.on_initialized(PsuState::try_from(at(argument, 0)).ok()?),
-        12 => s.on_psu_state_change(PsuState::try_from(at(argument, 0)).ok()?),
-        13..=17 => {
-            match op {
-                13 => s.on_timeout(),
-                14 => s.on_ready_success(),
-                15 => s.on_ready_failure(),
-                16 => s.on_policy_attach(group(argument).flagged()?),
-                _ => s.on_policy_detach(),
-            }
-            Ok(())
-        }
-        18 => return Some(after_charger(told(s.is_unpowered() as u8, 0, 0), s)),
-        _ => return None,
-    };
-    Some(after_charger(charger_result(result), s))
 }
 
 fn after_charger(answer: Answer, s: charger::State) -> Answer {
@@ -185,30 +284,6 @@ fn charger_result(answer: Result<(), charger::ChargerError>) -> Answer {
     }
 }
 
-// Capabilities and defaults
-
-fn ask_capability(op: u8, record: &[u8], argument: &[u8]) -> Option<Answer> {
-    let a = capability(record);
-    match op {
-        19 => Some(milliwatts(a.max_power_mw())),
-        20 => Some(told(order(a.cmp(capability(argument))), 0, 0)),
-        21 => {
-            let reason = DisconnectFlags::try_from(at(record, 0)).ok()?.reason?;
-            Some(told(reason.is_renegotiation() as u8, 0, 0))
-        }
-        22 => Some(after_psu(Ok(()), psu::State::default())),
-        23 => Some(after_charger(told(0, 0, 0), charger::State::default())),
-        _ => None,
-    }
-}
-
-fn capability(s: &[u8]) -> PowerCapability {
-    PowerCapability {
-        voltage_mv: u16::from_le_bytes([at(s, 0), at(s, 1)]),
-        current_ma: u16::from_le_bytes([at(s, 2), at(s, 3)]),
-    }
-}
-
 fn milliwatts(n: u32) -> Answer {
     let [a, b, c, d] = n.to_le_bytes();
     Answer {
@@ -223,74 +298,6 @@ fn order(o: Ordering) -> u8 {
         Ordering::Equal => 1,
         Ordering::Greater => 2,
     }
-}
-
-// Bytes that may be refused: a result of zeros then.
-
-fn ask_bytes(op: u8, record: &[u8]) -> Option<Answer> {
-    let first = at(record, 0);
-    let taken = match op {
-        24 => interface_records::psu::read(record).map(|s| Answer {
-            record: interface_records::psu::write(s),
-            ..told(1, 0, 0)
-        }),
-        25 => interface_records::charger::read(front(record)).map(|s| after_charger(
-            told(1, 0, 0),
-            s,
-        )),
-        26 => ConsumerFlags::try_from(first).ok().map(|f| told(
-            1,
-            f.unconstrained_power as u8,
-            number(f.psu_type),
-        )),
-        27 => ProviderFlags::try_from(first)
-            .ok()
-            .map(|f| told(1, 0, number(f.psu_type))),
-        28 => {
-            let mut bytes = [0; 400];
-            let row = changed(&mut bytes, record)?;
-            interface_records::psu::read_row(row, first as usize).map(|_| told(1, 0, 0))
-        }
-        29 => {
-            let mut bytes = [0; 400];
-            let row = changed(&mut bytes, record)?;
-            interface_records::charger::read_row(row, first as usize).map(|_| told(1, 0, 0))
-        }
-        30 => DisconnectFlags::try_from(first).ok().map(|_| told(1, 0, 0)),
-        31 => psu::answer_from(first).map(|_| told(1, 0, 0)),
-        32 => PsuState::try_from(first)
-            .ok()
-            .map(|p| told(1, (p == PsuState::Detached) as u8, 0)),
-        _ => return None,
-    };
-    Some(taken.unwrap_or(told(0, 0, 0)))
-}
-
-fn number(t: Option<PsuType>) -> u8 {
-    t.map_or(0, |t| u8::from(t))
-}
-
-// The front of a row of zeros with one byte changed: count, length, place, value.
-fn changed<'a>(bytes: &'a mut [u8; 400], record: &[u8]) -> Option<&'a [u8]> {
-    if let Some(byte) = bytes.get_mut(wide(record, 3)) {
-        *byte = at(record, 5);
-    }
-    bytes.get(..wide(record, 1))
-}
-
-fn wide(s: &[u8], i: usize) -> usize
-    requires { i < 8 }
-{
-    u16::from_le_bytes([at(s, i), at(s, i + 1)]) as usize
-}
-
-fn at(s: &[u8], i: usize) -> u8 {
-    s.get(i).copied().unwrap_or(0)
-}
-
-// The seven bytes of a charger record.
-fn front(s: &[u8]) -> &[u8] {
-    &s[..s.len().min(7)]
 }
 
 fn main(rt: HostRuntime) -> io::Result<()> {

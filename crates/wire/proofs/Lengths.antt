@@ -24,15 +24,15 @@ use Rattle.interface_display.proofs.Four.{at_most_four}
 use Rattle.wire.specs.Number.{leb128}
 use Rattle.wire.specs.Bytes.{capability_bytes, contract_bytes, notice_bytes, all_bytes, ports_bytes, consumer_bytes, event_bytes, picture_bytes, packet_bytes}
 use Rattle.wire.specs.WellFormed.{contract_fits, notice_fits, notices_fit, consumer_fits, event_fits, picture_fits, well_formed}
-use Rattle.power_policy_interface.proofs.Conjunction.{and_left, and_right}
+use Rattle.std.proofs.lemmas.Bool.{and_parts}
 use Rattle.wire.proofs.Stores.{length_to, length_short}
 use Rattle.wire.proofs.Tracked.{count_ports}
 
 capability_length : (c : PowerCapability) → capability_fits c ≡ true → length (capability_bytes c) ≤ 6
 unfolding capability_bytes
 capability_length c h =
-    let v = leb-true c.voltage_mv 65535 (and_left (leb c.voltage_mv 65535) (leb c.current_ma 65535) h) in
-    let m = leb-true c.current_ma 65535 (and_right (leb c.voltage_mv 65535) (leb c.current_ma 65535) h) in
+    let v = leb-true c.voltage_mv 65535 (and_parts (leb c.voltage_mv 65535) (leb c.current_ma 65535) h).0 in
+    let m = leb-true c.current_ma 65535 (and_parts (leb c.voltage_mv 65535) (leb c.current_ma 65535) h).1 in
     let v1 : c.voltage_mv < 65536 = omega arith in
     let m1 : c.current_ma < 65536 = omega arith in
     rw length-append (omega (arith, length_short c.voltage_mv v1, length_short c.current_ma m1))
@@ -40,7 +40,7 @@ capability_length c h =
 contract_length : (port : ℕ) (c : PowerCapability) (b : ℕ) → contract_fits port c ≡ true → length (contract_bytes port c b) ≤ 8
 unfolding contract_bytes
 contract_length port c b h =
-    let k = capability_length c (and_right (leb port 15) (capability_fits c) h) in
+    let k = capability_length c (and_parts (leb port 15) (capability_fits c) h).1 in
     omega (arith, length-append (capability_bytes c) (b ∷ []))
 
 notice_length : (e : Event) → notice_fits e ≡ true → length (notice_bytes e) ≤ 9
@@ -54,19 +54,19 @@ notice_length (Event.Unconstrained u) h = omega arith
 all_length : (l : List Event) → notices_fit l ≡ true → length (all_bytes l) ≤ 9 * length l
 all_length [] h = omega arith
 all_length (e ∷ l) h =
-    let a = notice_length e (and_left (notice_fits e) (notices_fit l) h) in
-    let b = all_length l (and_right (notice_fits e) (notices_fit l) h) in
+    let a = notice_length e (and_parts (notice_fits e) (notices_fit l) h).0 in
+    let b = all_length l (and_parts (notice_fits e) (notices_fit l) h).1 in
     omega (arith, length-append (notice_bytes e) (all_bytes l))
 
 event_length : (p : EventPacket) → event_fits p ≡ true → length (event_bytes p) ≤ 64
 unfolding event_bytes event_fits
 event_length p h =
-    let h1 = and_right (ltb 0 p.number) _ h in
-    let h2 = and_right (leb p.number 4294967295) _ h1 in
-    let h3 = and_right (leb p.answer 10) _ h2 in
-    let h4 = and_right (leb p.orders 35) _ h3 in
-    let g = and_left (padded p.notices) _ h4 in
-    let f = and_right (padded p.notices) (notices_fit (listed p.notices)) h4 in
+    let h1 = (and_parts (ltb 0 p.number) _ h).1 in
+    let h2 = (and_parts (leb p.number 4294967295) _ h1).1 in
+    let h3 = (and_parts (leb p.answer 10) _ h2).1 in
+    let h4 = (and_parts (leb p.orders 35) _ h3).1 in
+    let g = (and_parts (padded p.notices) _ h4).0 in
+    let f = (and_parts (padded p.notices) (notices_fit (listed p.notices)) h4).1 in
     let tail = length_of p.notices ∷ all_bytes (listed p.notices) in
     omega (arith, length-append (leb128 p.number) (p.answer ∷ (leb128 p.orders ++ tail)), length-append (leb128 p.orders) tail, length_to p.number, length_to p.orders, all_length (listed p.notices) f, at_most_four p.notices g)
 
@@ -84,8 +84,8 @@ picture_length : (p : Picture) → picture_fits p ≡ true → length (picture_b
 unfolding picture_bytes picture_fits
 picture_length p h =
     let d = p.display in
-    let h1 = and_right (leb p.number 4294967295) _ h in
-    let b = and_left (consumer_fits d.consumer) _ h1 in
+    let h1 = (and_parts (leb p.number 4294967295) _ h).1 in
+    let b = (and_parts (consumer_fits d.consumer) _ h1).0 in
     let tail = len d.providers ∷ ports_bytes d.providers.mask in
     let long : length tail ≤ 17 = omega (arith, ports_length d.providers.mask) in
     picture-sum (leb128 p.number) (consumer_bytes d.consumer) _ _ tail (length_to p.number) (consumer_length d.consumer b) long

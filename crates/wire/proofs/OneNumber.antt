@@ -28,10 +28,6 @@ abbrev Few : ℕ → ℕ → Type 0
 Few zero n = n < 128
 Few (suc k) n = Few k (n / 128)
 
-few_less : (k n : ℕ) → n < 128 → Few k n
-few_less zero n h = h
-few_less (suc k) n h = few_less k (n / 128) (omega arith)
-
 -- reading what was written
 
 digits_back : (k n : ℕ) (r : List ℕ) → Few k n → digits_read k (digits k n ++ r) ≡ Ok (n, length (digits k n))
@@ -73,12 +69,12 @@ record Before (d : ℕ) (r : Result (ℕ × ℕ) ℕ) (v u : ℕ) : Type 0 where
   more : u ≡ suc used
 
 before_told : (d : ℕ) (r : Result (ℕ × ℕ) ℕ) (v u : ℕ) → digit_before d r ≡ Ok (v, u) → Before d r v u
-before_told d (Err n) v u e = absurd (let z : ◌≡◌ {A = ℕ} 0 1 = cc in omega arith)
+before_told d (Err n) v u e = absurd (cc)
 before_told d (Ok (w, x)) v u e = tested (eqb w 0) refl e
   where
     tested : (t : Bool) → eqb w 0 ≡ t → cond {A = Result (ℕ × ℕ) ℕ} t (Err 31) (Ok (d + w * 128, suc x)) ≡ Ok (v, u)
         → Before d (Ok (w, x)) v u
-    tested true p q = absurd (let z : ◌≡◌ {A = ℕ} 0 1 = cc in omega arith)
+    tested true p q = absurd (cc)
     tested false p q =
         let k = same_number v u (d + w * 128) (suc x) (sym q) in
         record { value = w; used = x; read = refl; positive = eqb-false w 0 p; sum = k.0; more = k.1 }
@@ -91,14 +87,14 @@ digit_more : (k b v u w x : ℕ) (s : List ℕ) → 128 ≤ v → 128 + v % 128 
 digit_more k b v u w x s d m n g q = record { bytes = rw (le-ltb v 128 d, m, n, g) (ap (λ (l : List ℕ). b ∷ l) q) }
 
 digits_forth : (k : ℕ) (s : List ℕ) (v u : ℕ) → AllBytes s → digits_read k s ≡ Ok (v, u) → Written k s v u
-digits_forth k [] v u h e = absurd (let z : ◌≡◌ {A = ℕ} 0 1 = cc in omega arith)
+digits_forth k [] v u h e = absurd (cc)
 digits_forth zero (b ∷ s) v u h e = tested (ltb b 128) e
   where
     tested : (t : Bool) → cond {A = Result (ℕ × ℕ) ℕ} t (Ok (b, 1)) (Err 31) ≡ Ok (v, u) → Written zero (b ∷ s) v u
     tested true q =
         let k = same_number v u b 1 (sym q) in
         record { bytes = rw (k.0, k.1) }
-    tested false q = absurd (let z : ◌≡◌ {A = ℕ} 0 1 = cc in omega arith)
+    tested false q = absurd (cc)
 digits_forth (suc k) (b ∷ s) v u h e = tested (ltb b 128) refl e (λ w x. digits_forth k s w x (tail_bytes b s h))
   where
     tested : (t : Bool) → ltb b 128 ≡ t
@@ -119,13 +115,13 @@ digits_forth (suc k) (b ∷ s) v u h e = tested (ltb b 128) refl e (λ w x. digi
         digit_more k b v u w t.used s d m n t.more (ih w t.used t.read).bytes
 
 within_told : (limit : ℕ) (r : Result (ℕ × ℕ) ℕ) (v u : ℕ) → within limit r ≡ Ok (v, u) → r ≡ Ok (v, u)
-within_told limit (Err n) v u e = absurd (let z : ◌≡◌ {A = ℕ} 0 1 = cc in omega arith)
+within_told limit (Err n) v u e = absurd (cc)
 within_told limit (Ok (w, x)) v u e = tested (leb w limit) e
   where
     tested : (t : Bool) → cond {A = Result (ℕ × ℕ) ℕ} t (Ok (w, x)) (Err 31) ≡ Ok (v, u)
         → ◌≡◌ {A = Result (ℕ × ℕ) ℕ} (Ok (w, x)) (Ok (v, u))
     tested true q = q
-    tested false q = absurd (let z : ◌≡◌ {A = ℕ} 0 1 = cc in omega arith)
+    tested false q = absurd (cc)
 
 pub write_read : (limit : ℕ) (s : List ℕ) (v u : ℕ) → AllBytes s → read_number limit s ≡ Ok (v, u) → s ≡ leb128 v ++ drop u s
 unfolding leb128 read_number

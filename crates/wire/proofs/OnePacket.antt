@@ -13,7 +13,7 @@ use lib.ListN.{length}
 use borrow.Author.Tests.{le-leb, leb-true, lt-ltb, eq-eqb, ne_eqb, eqb-true, eqb-false}
 use Rattle.power_policy_interface.specs.declared.service.UnconstrainedState.{UnconstrainedState}
 use Rattle.power_policy_interface.specs.declared.service.event.Event.{Event}
-use Rattle.power_policy_interface.proofs.Conjunction.{and_both}
+use Rattle.std.proofs.lemmas.Bool.{and_parts}
 use Rattle.interface_display.proofs.Four.{rebuilt, rebuilt_padded, rebuilt_listed}
 use Rattle.interface_display.specs.Notices.{empty, pushed, listed, length_of, padded}
 use Rattle.interface_display.specs.Providers.{ones, len}
@@ -59,7 +59,7 @@ notices_told (suc k) n s l r h p =
 
 end_told : {A : Type 0} (a b : A) (s r : List ℕ) → end a s ≡ parsed b r → (a ≡ b) × (s ≡ []) × (r ≡ [])
 end_told a b [] r e = ((let k : a ≡ b = cc in k), refl, (let k : r ≡ [] = cc in k))
-end_told a b (x ∷ s) r e = absurd (let z : ◌≡◌ {A = ℕ} 0 1 = cc in omega arith)
+end_told a b (x ∷ s) r e = absurd (cc)
 
 -- all the bytes are those of a packet that is well-formed
 pub record Whole (s : List ℕ) (p : Packet) : Type 0 where
@@ -194,7 +194,7 @@ ports_told (suc k) low a s q r p =
     let t = then_told (byte s) _ q r p in
     let f = byte_told s t.value t.rest t.first in
     let u = holds_told (leb low t.value && leb t.value 15) t.rest _ q r t.second in
-    let v = and_both (leb low t.value) (leb t.value 15) u.0 in
+    let v = and_parts (leb low t.value) (leb t.value 15) u.0 in
     let b = ports_told k (suc t.value) (2 ^ t.value + a) t.rest q r u.1 in
     record {
       list = t.value ∷ b.list;
@@ -288,10 +288,10 @@ picture_told q p r h e =
 
 kind_whole : (kind : ℕ) (q : List ℕ) (p : Packet) (r : List ℕ) → AllBytes q → packet_of kind q ≡ parsed p r → Whole (kind ∷ q) p
 unfolding packet_of
-kind_whole zero q p r h e = absurd (let z : ◌≡◌ {A = ℕ} 0 1 = cc in omega arith)
+kind_whole zero q p r h e = absurd (cc)
 kind_whole (suc zero) q p r h e = event_told q p r h e
 kind_whole (suc (suc zero)) q p r h e = picture_told q p r h e
-kind_whole (suc (suc (suc k))) q p r h e = absurd (let z : ◌≡◌ {A = ℕ} 0 1 = cc in omega arith)
+kind_whole (suc (suc (suc k))) q p r h e = absurd (cc)
 
 whole : (s : List ℕ) (p : Packet) (r : List ℕ) → AllBytes s → packet s ≡ parsed p r → Whole s p
 unfolding packet
@@ -302,7 +302,7 @@ whole s p r h e =
     record { bytes = f ∙ w.bytes; fits = w.fits }
 
 read_told : (s : List ℕ) (p : Packet) (x : Parsed Packet) → packet s ≡ x → AllBytes s → packet_read x ≡ Ok p → Whole s p
-read_told s p (refused n) e h q = absurd (let z : ◌≡◌ {A = ℕ} 0 1 = cc in omega arith)
+read_told s p (refused n) e h q = absurd (cc)
 read_told s p (parsed a r) e h q =
     let f : a ≡ p = cc in
     whole s p r h (e ∙ ap (λ (y : Packet). parsed y r) f)

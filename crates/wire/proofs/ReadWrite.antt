@@ -1,11 +1,11 @@
 -- Reading what was written: each field is read back from its own bytes, and the rest is what follows them.
 -- Assumes nothing.
 use mathlib.Core.Path.{◌≡◌, refl, ap, ◌∙◌}
-use mathlib.Core.Bool.{Bool, true, false}
+use mathlib.Core.Bool.{true}
 use mathlib.Core.List.{List, [], ◌∷◌, ◌++◌, append_assoc, append-nil}
 use Prim.Native.Nat.{ℕ, ◌≤◌}
 use native.Mathlib.Omega.{arith}
-use lib.Dec.{eqb, leb, ltb}
+use lib.Dec.{leb, ltb}
 use lib.ListN.{length}
 use borrow.Author.Tests.{le-leb, leb-true}
 use Rattle.power_policy_interface.specs.Capability.{bit, consumer_flags_byte, provider_flags_byte, disconnect_byte, capability_fits}
@@ -14,7 +14,7 @@ use Rattle.power_policy_interface.specs.declared.capability.ConsumerFlags.{Consu
 use Rattle.power_policy_interface.specs.declared.service.UnconstrainedState.{UnconstrainedState}
 use Rattle.power_policy_interface.specs.declared.service.event.Event.{Event}
 use Rattle.power_policy_interface.proofs.OneByte.{consumer_read_write, provider_read_write, reason_read_write}
-use Rattle.power_policy_interface.proofs.Conjunction.{and_left, and_right}
+use Rattle.std.proofs.lemmas.Bool.{and_parts}
 use Rattle.interface_display.specs.Notices.{empty, pushed, listed, length_of, padded}
 use Rattle.interface_display.specs.declared.notices.Notices.{Notices}
 use Rattle.interface_display.specs.declared.packet.EventPacket.{EventPacket}
@@ -26,6 +26,7 @@ use Rattle.wire.specs.Packet.{capability, contract, consumer, unconstrained, con
 use Rattle.wire.specs.Bytes.{capability_bytes, contract_bytes, unconstrained_bytes, notice_bytes, all_bytes, event_bytes}
 use Rattle.wire.specs.WellFormed.{contract_fits, notice_fits, notices_fit, event_fits}
 use Rattle.wire.proofs.OneNumber.{number_back}
+use Rattle.power_policy_interface.proofs.Bits.{bit_tested, bit_back}
 
 pub field_back : (most b : ℕ) (r : List ℕ) → leb b most ≡ true → field most (b ∷ r) ≡ parsed b r
 unfolding field
@@ -34,8 +35,8 @@ field_back most b r e = rw e
 capability_back : (c : PowerCapability) (r : List ℕ) → capability_fits c ≡ true → capability (capability_bytes c ++ r) ≡ parsed c r
 unfolding capability capability_bytes
 capability_back c r e =
-    let v = leb-true c.voltage_mv 65535 (and_left (leb c.voltage_mv 65535) (leb c.current_ma 65535) e) in
-    let m = leb-true c.current_ma 65535 (and_right (leb c.voltage_mv 65535) (leb c.current_ma 65535) e) in
+    let v = leb-true c.voltage_mv 65535 (and_parts (leb c.voltage_mv 65535) (leb c.current_ma 65535) e).0 in
+    let m = leb-true c.current_ma 65535 (and_parts (leb c.voltage_mv 65535) (leb c.current_ma 65535) e).1 in
     let v' : c.voltage_mv ≤ 4294967295 = omega arith in
     let m' : c.current_ma ≤ 4294967295 = omega arith in
     rw (append_assoc (leb128 c.voltage_mv) (leb128 c.current_ma) r, number_back 65535 c.voltage_mv (leb128 c.current_ma ++ r) v v', number_back 65535 c.current_ma r m m')
@@ -44,8 +45,8 @@ contract_back : (port : ℕ) (c : PowerCapability) (b : ℕ) (r : List ℕ) → 
     → contract (contract_bytes port c b ++ r) ≡ parsed (record { port = port; power = c; flags = b }) r
 unfolding contract contract_bytes
 contract_back port c b r e =
-    let p = and_left (leb port 15) (capability_fits c) e in
-    let q = and_right (leb port 15) (capability_fits c) e in
+    let p = (and_parts (leb port 15) (capability_fits c) e).0 in
+    let q = (and_parts (leb port 15) (capability_fits c) e).1 in
     rw (field_back 15 port ((capability_bytes c ++ (b ∷ [])) ++ r) p, append_assoc (capability_bytes c) (b ∷ []) r, capability_back c (b ∷ r) q)
 
 pub consumer_back : (port : ℕ) (c : PowerCapability) (r : List ℕ) → contract_fits port c ≡ true → (f : ConsumerFlags)
@@ -54,18 +55,10 @@ pub consumer_back : (port : ℕ) (c : PowerCapability) (r : List ℕ) → contra
 unfolding consumer
 consumer_back port c r e f = rw (contract_back port c (consumer_flags_byte f) r e, consumer_read_write f)
 
-bit_fits : (u : Bool) → leb (bit u) 1 ≡ true
-bit_fits true = refl
-bit_fits false = refl
-
-bit_test : (u : Bool) → eqb (bit u) 1 ≡ u
-bit_test true = refl
-bit_test false = refl
-
 pub unconstrained_back : (u : UnconstrainedState) (r : List ℕ) → leb u.available 16 ≡ true → unconstrained (unconstrained_bytes u ++ r) ≡ parsed u r
 unfolding unconstrained
 unconstrained_back u r e =
-    rw (field_back 1 (bit u.unconstrained) (u.available ∷ r) (bit_fits u.unconstrained), field_back 16 u.available r e, bit_test u.unconstrained)
+    rw (field_back 1 (bit u.unconstrained) (u.available ∷ r) (bit_tested u.unconstrained), field_back 16 u.available r e, bit_back u.unconstrained)
 
 pub notice_back : (e : Event) (r : List ℕ) → notice_fits e ≡ true → notice (notice_bytes e ++ r) ≡ parsed e r
 unfolding notice notice_of notice_bytes consumer_disconnected consumer_connected provider_disconnected provider_connected unconstrained_changed
@@ -86,7 +79,7 @@ notices_back : (l : List Event) (n : Notices) (r : List ℕ) → notices_fit l �
 unfolding appended
 notices_back [] n r h = refl
 notices_back (e ∷ l) n r h =
-    rw (append_assoc (notice_bytes e) (all_bytes l) r, notice_back e (all_bytes l ++ r) (and_left (notice_fits e) (notices_fit l) h)) (notices_back l (pushed n e) r (and_right (notice_fits e) (notices_fit l) h))
+    rw (append_assoc (notice_bytes e) (all_bytes l) r, notice_back e (all_bytes l ++ r) (and_parts (notice_fits e) (notices_fit l) h).0) (notices_back l (pushed n e) r (and_parts (notice_fits e) (notices_fit l) h).1)
 
 pub appended_rebuilt : (l : List Event) → length l ≤ 4 → appended empty l ≡ rebuilt l
 unfolding appended
@@ -108,16 +101,16 @@ count_fits n h = le-leb (length_of n) 4 (at_most_four n h)
 pub event_read_write : (p : EventPacket) → event_fits p ≡ true → packet (event_bytes p) ≡ parsed (Packet.Event p) []
 unfolding event_fits event_bytes packet packet_of event event_after event_notices
 event_read_write p h =
-    let a = and_left (ltb 0 p.number) _ h in
-    let h1 = and_right (ltb 0 p.number) _ h in
-    let b = leb-true p.number 4294967295 (and_left (leb p.number 4294967295) _ h1) in
-    let h2 = and_right (leb p.number 4294967295) _ h1 in
-    let c = and_left (leb p.answer 10) _ h2 in
-    let h3 = and_right (leb p.answer 10) _ h2 in
-    let d = and_left (leb p.orders 35) _ h3 in
-    let h4 = and_right (leb p.orders 35) _ h3 in
-    let g = and_left (padded p.notices) _ h4 in
-    let f = and_right (padded p.notices) (notices_fit (listed p.notices)) h4 in
+    let a = (and_parts (ltb 0 p.number) _ h).0 in
+    let h1 = (and_parts (ltb 0 p.number) _ h).1 in
+    let b = leb-true p.number 4294967295 (and_parts (leb p.number 4294967295) _ h1).0 in
+    let h2 = (and_parts (leb p.number 4294967295) _ h1).1 in
+    let c = (and_parts (leb p.answer 10) _ h2).0 in
+    let h3 = (and_parts (leb p.answer 10) _ h2).1 in
+    let d = (and_parts (leb p.orders 35) _ h3).0 in
+    let h4 = (and_parts (leb p.orders 35) _ h3).1 in
+    let g = (and_parts (padded p.notices) _ h4).0 in
+    let f = (and_parts (padded p.notices) (notices_fit (listed p.notices)) h4).1 in
     let o : p.orders ≤ 4294967295 = omega (arith, leb-true p.orders 35 d) in
     let n = p.notices in
     let tail = length_of n ∷ all_bytes (listed n) in

@@ -39,7 +39,7 @@ used_digits (suc k) (b ∷ s) = tested (ltb b 128) (used_before (b - 128) b s (d
     tested false h = h
 
 number_told : (l : ℕ) (s : List ℕ) (v u : ℕ) (r : Result (ℕ × ℕ) ℕ) → Used s r → within l r ≡ Ok (v, u) → (v ≤ l) × (u ≤ length s)
-number_told l s v u (Err n) h e = absurd (let z : ◌≡◌ {A = ℕ} 0 1 = cc in omega arith)
+number_told l s v u (Err n) h e = absurd (cc)
 number_told l s v u (Ok (w, x)) h e = tested (leb w l) refl e
   where
     tested : (t : Bool) → leb w l ≡ t → cond {A = Result (ℕ × ℕ) ℕ} t (Ok (w, x)) (Err 31) ≡ Ok (v, u)
@@ -47,7 +47,7 @@ number_told l s v u (Ok (w, x)) h e = tested (leb w l) refl e
     tested true p q =
         let k = same_number w x v u q in
         (omega (arith, leb-true w l p, k.0), omega (arith, k.1))
-    tested false p q = absurd (let z : ◌≡◌ {A = ℕ} 0 1 = cc in omega arith)
+    tested false p q = absurd (cc)
 
 pub number_bounds : (l : ℕ) (s : List ℕ) (v u : ℕ) → read_number l s ≡ Ok (v, u) → (v ≤ l) × (u ≤ length s)
 unfolding read_number

@@ -14,6 +14,7 @@ use borrow.Author.Tests.{ltb-false, eq-eqb, ne_eqb}
 use Rattle.wire.specs.Number.{digits, leb128}
 use Rattle.wire.specs.Bytes.{ports_from}
 
+-- bytes_groups has it too: neither crate lies below the other, and none below both stores bytes
 pub sets_append : (vs ws l : List ℕ) (i : ℕ) → sets (sets l i vs) (i + length vs) ws ≡ sets l i (vs ++ ws)
 sets_append [] ws l i = rw add-zero
 sets_append (v ∷ vs) ws l i =

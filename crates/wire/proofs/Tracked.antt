@@ -13,7 +13,7 @@ use lib.Dec.{eqb, leb, ltb}
 use lib.ListN.{length}
 use borrow.Author.Tests.{le-leb, leb-true, ltb-true, eqb-true, eqb-false}
 use Rattle.power_policy_interface.specs.Capability.{consumer_flags_byte}
-use Rattle.power_policy_interface.proofs.Conjunction.{and_left, and_right}
+use Rattle.std.proofs.lemmas.Bool.{and_parts}
 use Rattle.interface_display.specs.Providers.{bit_at, ones, len}
 use Rattle.interface_display.specs.declared.AvailableConsumer.{AvailableConsumer}
 use Rattle.interface_display.specs.declared.packet.Packet.{Packet}
@@ -132,14 +132,14 @@ unfolding picture_fits picture_bytes packet packet_of picture picture_after
 picture_read_write p h =
     let d = p.display in
     let q = d.providers in
-    let a = leb-true p.number 4294967295 (and_left (leb p.number 4294967295) _ h) in
-    let h1 = and_right (leb p.number 4294967295) _ h in
-    let b = and_left (consumer_fits d.consumer) _ h1 in
-    let h2 = and_right (consumer_fits d.consumer) _ h1 in
-    let c = and_left (leb d.unconstrained.available 16) _ h2 in
-    let h3 = and_right (leb d.unconstrained.available 16) _ h2 in
-    let e = ltb-true q.mask 65536 (and_left (ltb q.mask 65536) (leb (len q) 4) h3) in
-    let f = and_right (ltb q.mask 65536) (leb (len q) 4) h3 in
+    let a = leb-true p.number 4294967295 (and_parts (leb p.number 4294967295) _ h).0 in
+    let h1 = (and_parts (leb p.number 4294967295) _ h).1 in
+    let b = (and_parts (consumer_fits d.consumer) _ h1).0 in
+    let h2 = (and_parts (consumer_fits d.consumer) _ h1).1 in
+    let c = (and_parts (leb d.unconstrained.available 16) _ h2).0 in
+    let h3 = (and_parts (leb d.unconstrained.available 16) _ h2).1 in
+    let e = ltb-true q.mask 65536 (and_parts (ltb q.mask 65536) (leb (len q) 4) h3).0 in
+    let f = (and_parts (ltb q.mask 65536) (leb (len q) 4) h3).1 in
     let tail = unconstrained_bytes d.unconstrained ++ (len q ∷ ports_bytes q.mask) in
     rw (number_back 4294967295 p.number (consumer_bytes d.consumer ++ tail) a a)
     (option_back p.number tail d.consumer b

@@ -6,12 +6,11 @@ use mathlib.Core.Path.{◌≡◌, refl, ap, sym, ◌∙◌}
 use mathlib.Core.Bool.{Bool, true, false}
 use mathlib.Core.List.{List, [], ◌∷◌, ◌++◌, append_assoc}
 use Prim.Native.Nat.{ℕ, zero, suc, ◌+◌, ◌≤◌}
-use native.Mathlib.Omega.{arith}
 use lib.Dec.{eqb, leb}
 use lib.ListN.{length, get_or, drop}
 use lib.Seq.{get_or-append-add}
 use borrow.Author.Tests.{le-leb, leb-true}
-use Rattle.power_policy_interface.specs.Capability.{bit, consumer_flags_byte, provider_flags_byte, consumer_flags_from, provider_flags_from, disconnect_from, disconnect_byte, capability_fits}
+use Rattle.power_policy_interface.specs.Capability.{consumer_flags_byte, provider_flags_byte, consumer_flags_from, provider_flags_from, disconnect_from, disconnect_byte, capability_fits}
 use Rattle.power_policy_interface.specs.declared.capability.PowerCapability.{PowerCapability}
 use Rattle.power_policy_interface.specs.declared.capability.ConsumerFlags.{ConsumerFlags}
 use Rattle.power_policy_interface.specs.declared.capability.ProviderFlags.{ProviderFlags}
@@ -28,6 +27,7 @@ use Rattle.wire.specs.Bytes.{capability_bytes, contract_bytes, unconstrained_byt
 use Rattle.wire.specs.WellFormed.{contract_fits, notice_fits}
 use Rattle.wire.proofs.Reading.{number_bounds}
 use Rattle.wire.proofs.OneNumber.{AllBytes, write_read}
+use Rattle.power_policy_interface.proofs.Bits.{bit_written}
 
 -- two readings one after the other, taken apart
 pub record Then {A B : Type 0} (x : Parsed A) (f : A → Parser B) (b : B) (r : List ℕ) : Type 0 where
@@ -37,7 +37,7 @@ pub record Then {A B : Type 0} (x : Parsed A) (f : A → Parser B) (b : B) (r : 
   pub second : f value rest ≡ parsed b r
 
 pub then_told : {A B : Type 0} (x : Parsed A) (f : A → Parser B) (b : B) (r : List ℕ) → then x f ≡ parsed b r → Then x f b r
-then_told (refused n) f b r e = absurd (let z : ◌≡◌ {A = ℕ} 0 1 = cc in omega arith)
+then_told (refused n) f b r e = absurd (cc)
 then_told (parsed a s) f b r e = record { value = a; rest = s; first = refl; second = e }
 
 -- `s` is so many bytes, and then the rest
@@ -47,7 +47,7 @@ rest_bytes s xs r e h k =
     rw g at (h (length xs + k))
 
 pub byte_told : (s : List ℕ) (b : ℕ) (r : List ℕ) → byte s ≡ parsed b r → s ≡ b ∷ r
-byte_told [] b r e = absurd (let z : ◌≡◌ {A = ℕ} 0 1 = cc in omega arith)
+byte_told [] b r e = absurd (cc)
 byte_told (x ∷ s) b r e =
     let f : x ≡ b = cc in
     let g : s ≡ r = cc in
@@ -56,7 +56,7 @@ byte_told (x ∷ s) b r e =
 pub holds_told : {B : Type 0} (t : Bool) (s : List ℕ) (q : Parser B) (b : B) (r : List ℕ) → then (holds t s) (λ a. q) ≡ parsed b r
     → (t ≡ true) × (q s ≡ parsed b r)
 holds_told true s q b r e = (refl, e)
-holds_told false s q b r e = absurd (let z : ◌≡◌ {A = ℕ} 0 1 = cc in omega arith)
+holds_told false s q b r e = absurd (cc)
 
 pub field_told : (most : ℕ) (s : List ℕ) (b : ℕ) (r : List ℕ) → field most s ≡ parsed b r → (s ≡ b ∷ r) × (leb b most ≡ true)
 unfolding field
@@ -72,7 +72,7 @@ unfolding number
 number_told limit s v r h e = cases (read_number limit s) refl e
   where
     cases : (x : Result (ℕ × ℕ) ℕ) → read_number limit s ≡ x → number_rest s x ≡ parsed v r → (s ≡ leb128 v ++ r) × (v ≤ limit)
-    cases (Err n) p q = absurd (let z : ◌≡◌ {A = ℕ} 0 1 = cc in omega arith)
+    cases (Err n) p q = absurd (cc)
     cases (Ok (w, u)) p q =
         let f : w ≡ v = cc in
         let g : drop u s ≡ r = cc in
@@ -144,19 +144,19 @@ contract_told s k r h e =
 
 consumer_flags_told : (o : Option ConsumerFlags) (s : List ℕ) (f : ConsumerFlags) (r : List ℕ) → consumer_flags_given o s ≡ parsed f r
     → (o ≡ Some f) × (s ≡ r)
-consumer_flags_told None s f r e = absurd (let z : ◌≡◌ {A = ℕ} 0 1 = cc in omega arith)
+consumer_flags_told None s f r e = absurd (cc)
 consumer_flags_told (Some g) s f r e =
     (ap Some (let k : g ≡ f = cc in k), (let k : s ≡ r = cc in k))
 
 provider_flags_told : (o : Option ProviderFlags) (s : List ℕ) (f : ProviderFlags) (r : List ℕ) → provider_flags_given o s ≡ parsed f r
     → (o ≡ Some f) × (s ≡ r)
-provider_flags_told None s f r e = absurd (let z : ◌≡◌ {A = ℕ} 0 1 = cc in omega arith)
+provider_flags_told None s f r e = absurd (cc)
 provider_flags_told (Some g) s f r e =
     (ap Some (let k : g ≡ f = cc in k), (let k : s ≡ r = cc in k))
 
 reason_told : (o : Option DisconnectFlags) (s : List ℕ) (f : DisconnectFlags) (r : List ℕ) → reason_given o s ≡ parsed f r
     → (o ≡ Some f) × (s ≡ r)
-reason_told None s f r e = absurd (let z : ◌≡◌ {A = ℕ} 0 1 = cc in omega arith)
+reason_told None s f r e = absurd (cc)
 reason_told (Some g) s f r e =
     (ap Some (let k : g ≡ f = cc in k), (let k : s ≡ r = cc in k))
 
@@ -192,11 +192,6 @@ consumer_told s a r h e =
 
 -- both unconstrained figures
 
-bit_back : (b : ℕ) → leb b 1 ≡ true → bit (eqb b 1) ≡ b
-bit_back zero h = refl
-bit_back (suc zero) h = refl
-bit_back (suc (suc b)) h = absurd (omega (arith, leb-true (suc (suc b)) 1 h))
-
 abbrev pub figures_fit : UnconstrainedState → Bool
 figures_fit u = leb u.available 16
 
@@ -217,7 +212,7 @@ unconstrained_told s a r e =
         let d : record { unconstrained = eqb b 1; available = n } ≡ a = cc in
         let z : w ≡ r = cc in
         record {
-          front = p ∙ ((λ i. sym (bit_back b hb) i ∷ n ∷ w) ∙ (λ i. unconstrained_bytes (d i) ++ z i));
+          front = p ∙ ((λ i. bit_written b (leb-true b 1 hb) i ∷ n ∷ w) ∙ (λ i. unconstrained_bytes (d i) ++ z i));
           fit = ap figures_fit (sym d) ∙ hn;
         }
 
@@ -310,13 +305,13 @@ module _ (q : List ℕ) (e : Event) (r : List ℕ) where
 
   kind_told : (kind : ℕ) → AllBytes q → notice_of kind q ≡ parsed e r → Read notice_bytes notice_fits (kind ∷ q) e r
   unfolding notice_of
-  kind_told zero h p = absurd (let z : ◌≡◌ {A = ℕ} 0 1 = cc in omega arith)
+  kind_told zero h p = absurd (cc)
   kind_told (suc zero) h p = one_told p
   kind_told (suc (suc zero)) h p = two_told h p
   kind_told (suc (suc (suc zero))) h p = three_told p
   kind_told (suc (suc (suc (suc zero)))) h p = four_told h p
   kind_told (suc (suc (suc (suc (suc zero))))) h p = five_told p
-  kind_told (suc (suc (suc (suc (suc (suc k)))))) h p = absurd (let z : ◌≡◌ {A = ℕ} 0 1 = cc in omega arith)
+  kind_told (suc (suc (suc (suc (suc (suc k)))))) h p = absurd (cc)
 
 pub notice_told : (s : List ℕ) (e : Event) (r : List ℕ) → AllBytes s → notice s ≡ parsed e r → Read notice_bytes notice_fits s e r
 unfolding notice

@@ -6,6 +6,7 @@ ghost use Rattle.wire.specs.Number.{leb128, read_number, written, next};
 use power_policy_interface::refusal::Refusal;
 
 // How many bytes a number takes, 1 to 5.
+#[tactic(auto, unfolding(crate::specs::Number::leb128))]
 pub fn length(n: u32) -> usize
     ensures { result ≡ length (leb128 n) }
 {
@@ -32,6 +33,7 @@ pub fn read(s: &[u8], limit: u32) -> Result<(u32, usize), Refusal>
 {
     let mut value: u64 = 0;
     let mut scale: u64 = 1;
+    // By an index: over the bytes the loop would end alike after five of them and after the last, which are two refusals.
     for i in 0..5 {
         let Some(b) = s.get(i) else {
             return Err(Refusal::CutShort);
@@ -52,7 +54,9 @@ pub fn read(s: &[u8], limit: u32) -> Result<(u32, usize), Refusal>
 }
 
 // Writes a number from a place on and returns the place after it; where fewer than five places are left, writes nothing and
-// returns the same place.
+// returns the same place. A place and no part of the buffer: it is public, and with a part each caller would cut it. Each length has a branch
+// that stores the whole of its bytes, as the contract says them.
+#[tactic(auto, unfolding(crate::specs::Number::leb128))]
 pub fn write(out: &mut [u8], at: usize, n: u32) -> usize
     ensures { (result ≡ next out.old at n) × (out.new ≡ written out.old at n) }
 {

@@ -162,7 +162,8 @@ impl<'a> Reader<'a> {
         Ok(Event::ProviderDisconnected(port))
     }
 
-    // Notice 4 after its kind: a contract with a provider's flags.
+    // Notice 4 after its kind: a contract with a provider's flags. As `consumer` reads it: a trait over both flags and both capabilities
+    // would take more lines than these.
     #[tactic(auto, unfolding(crate::specs::Packet::provider_connected))]
     fn provider_connected(&mut self) -> Result<Event, Refusal>
         ensures { went result self.new.rest.now ≡ provider_connected self.old.rest.now }
@@ -185,7 +186,7 @@ impl<'a> Reader<'a> {
         Ok(Event::Unconstrained(u))
     }
 
-    // A notice of a kind, after the kind's byte.
+    // A notice of a kind, after the kind's byte. The byte is matched where it is read: an enum of kinds would be matched once more.
     #[tactic(auto, unfolding(crate::specs::Packet::notice_of))]
     fn notice_of(&mut self, kind: u8) -> Result<Event, Refusal>
         ensures { went result self.new.rest.now ≡ notice_of kind self.old.rest.now }
@@ -238,7 +239,7 @@ impl<'a> Reader<'a> {
         Ok(Providers { mask })
     }
 
-    // The consumer of a picture after its presence byte, 0 or 1.
+    // The consumer of a picture after its presence byte, 0 or 1: the byte as it was read, which the definition asks too.
     fn option_consumer(&mut self, present: u8) -> Result<Option<AvailableConsumer>, Refusal>
         ensures { went result self.new.rest.now ≡ consumer_given present self.old.rest.now }
     {
@@ -294,7 +295,7 @@ impl<'a> Reader<'a> {
         }))
     }
 
-    // A packet: 1 an event packet, 2 a full picture.
+    // A packet: 1 an event packet, 2 a full picture; matched where it is read, as a notice's kind.
     #[tactic(auto, unfolding(crate::specs::Packet::packet, crate::specs::Packet::packet_of))]
     fn packet(&mut self) -> Result<Packet, Refusal>
         ensures { went result self.new.rest.now ≡ packet self.old.rest.now }

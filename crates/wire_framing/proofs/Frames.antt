@@ -36,9 +36,9 @@ sized_told have used v u n e = tested (eqb v 0) (ltb 64 v) (leb (used + v) have)
     tested : (a b d : Bool) → eqb v 0 ≡ a → ltb 64 v ≡ b → leb (used + v) have ≡ d
         → cond {A = Result Framed ℕ} a (Err 32) (cond {A = Result Framed ℕ} b (Err 32) (cond {A = Result Framed ℕ} d (Ok (Framed.Frame used v)) (Ok Framed.Cut))) ≡ Ok (Framed.Frame u n)
         → Sized have used v u n
-    tested true b d p q r t = absurd (let z : ◌≡◌ {A = ℕ} 0 1 = cc in omega arith)
-    tested false true d p q r t = absurd (let z : ◌≡◌ {A = ℕ} 0 1 = cc in omega arith)
-    tested false false false p q r t = absurd (let z : ◌≡◌ {A = ℕ} 0 1 = cc in omega arith)
+    tested true b d p q r t = absurd (cc)
+    tested false true d p q r t = absurd (cc)
+    tested false false false p q r t = absurd (cc)
     tested false false true p q r t =
         let f : used ≡ u = cc in
         let g : v ≡ n = cc in
@@ -49,8 +49,8 @@ at_told : (s : List ℕ) (r : Result (ℕ × ℕ) ℕ) (u n : ℕ) → read_numb
 at_told s (Err k) u n p e = tested (eqb k 30) e
   where
     tested : (t : Bool) → cond {A = Result Framed ℕ} t (Ok Framed.Cut) (Err k) ≡ Ok (Framed.Frame u n) → Told s u n
-    tested true q = absurd (let z : ◌≡◌ {A = ℕ} 0 1 = cc in omega arith)
-    tested false q = absurd (let z : ◌≡◌ {A = ℕ} 0 1 = cc in omega arith)
+    tested true q = absurd (cc)
+    tested false q = absurd (cc)
 at_told s (Ok (v, used)) u n p e =
     let w = sized_told (length s) used v u n e in
     record {
@@ -65,7 +65,7 @@ unfolding framed
 frame_told s u n e = tested (eqb (length s) 0) e
   where
     tested : (t : Bool) → cond {A = Result Framed ℕ} t (Ok Framed.Empty) (framed_at (length s) (read_number 4294967295 s)) ≡ Ok (Framed.Frame u n) → Told s u n
-    tested true q = absurd (let z : ◌≡◌ {A = ℕ} 0 1 = cc in omega arith)
+    tested true q = absurd (cc)
     tested false q = at_told s (read_number 4294967295 s) u n refl q
 
 -- length, packet and rest: the packet's bytes, whatever follows
@@ -113,7 +113,7 @@ pub frame_more : (s t : List ℕ) (u n : ℕ) → framed s ≡ Ok (Framed.Frame 
 unfolding framed
 frame_more s t u n e =
     let w = frame_told s u n e in
-    let m = number_more 4294967295 s t (λ q. let z : ◌≡◌ {A = ℕ} 0 1 = cc w.number in omega arith) ∙ w.number in
+    let m = number_more 4294967295 s t (λ q. cc w.number) ∙ w.number in
     let l = length-append s t in
     let some : length (s ++ t) ≡ 0 → ⊥ = omega (arith, w.least, w.there) in
     let none : n ≡ 0 → ⊥ = omega (arith, w.least) in
@@ -130,19 +130,19 @@ sized_refused have more used v k e = tested (eqb v 0) (ltb 64 v) (leb (used + v)
         → cond {A = Result Framed ℕ} a (Err 32) (cond {A = Result Framed ℕ} b (Err 32) (cond {A = Result Framed ℕ} (leb (used + v) more) (Ok (Framed.Frame used v)) (Ok Framed.Cut))) ≡ Err k
     tested true b d q = q
     tested false true d q = q
-    tested false false true q = absurd (let z : ◌≡◌ {A = ℕ} 0 1 = cc in omega arith)
-    tested false false false q = absurd (let z : ◌≡◌ {A = ℕ} 0 1 = cc in omega arith)
+    tested false false true q = absurd (cc)
+    tested false false false q = absurd (cc)
 
 refused_at_lem : (s t : List ℕ) (r : Result (ℕ × ℕ) ℕ) (k : ℕ) → read_number 4294967295 s ≡ r → framed_at (length s) r ≡ Err k
     → framed_at (length (s ++ t)) (read_number 4294967295 (s ++ t)) ≡ Err k
 refused_at_lem s t (Ok (v, used)) k p e =
-    let m = number_more 4294967295 s t (λ q. let z : ◌≡◌ {A = ℕ} 0 1 = cc in omega arith) ∙ p in
+    let m = number_more 4294967295 s t (λ q. cc) ∙ p in
     rw m (sized_refused (length s) (length (s ++ t)) used v k e)
 refused_at_lem s t (Err n) k p e = tested (eqb n 30) refl e
   where
     tested : (a : Bool) → eqb n 30 ≡ a → cond {A = Result Framed ℕ} a (Ok Framed.Cut) (Err n) ≡ Err k
         → framed_at (length (s ++ t)) (read_number 4294967295 (s ++ t)) ≡ Err k
-    tested true g q = absurd (let z : ◌≡◌ {A = ℕ} 0 1 = cc in omega arith)
+    tested true g q = absurd (cc)
     tested false g q =
         let d = eqb-false n 30 g in
         let m = number_more 4294967295 s t (λ q. d (let z : n ≡ 30 = cc in z)) ∙ p in
@@ -154,7 +154,7 @@ refused_more s t k e = tested (eqb (length s) 0) refl e
   where
     tested : (a : Bool) → eqb (length s) 0 ≡ a → cond {A = Result Framed ℕ} a (Ok Framed.Empty) (framed_at (length s) (read_number 4294967295 s)) ≡ Err k
         → cond (eqb (length (s ++ t)) 0) (Ok Framed.Empty) (framed_at (length (s ++ t)) (read_number 4294967295 (s ++ t))) ≡ Err k
-    tested true p q = absurd (let z : ◌≡◌ {A = ℕ} 0 1 = cc in omega arith)
+    tested true p q = absurd (cc)
     tested false p q =
         let d = eqb-false (length s) 0 p in
         let some : length (s ++ t) ≡ 0 → ⊥ = omega (arith, length-append s t) in

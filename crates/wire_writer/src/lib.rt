@@ -19,7 +19,9 @@ use power_policy_interface::service::UnconstrainedState;
 use power_policy_interface::service::event::Event;
 use wire::number;
 
-// A buffer, and the place in it that is written next. Each method writes from there on.
+// A buffer, and the place in it that is written next. Each method writes from there on. `number::write` takes the two, and the place is at
+// last how many bytes there are: the rest of the buffer alone would need the whole one's length beside it for that. Each method asks for
+// the room of what it writes: that differs from one to the next, so no invariant says it.
 #[derive(Drop)]
 struct Writer<'a> {
     out: &'a mut [u8],
@@ -134,6 +136,7 @@ impl<'a> Writer<'a> {
         ensures { Wrote (ports_bytes mask) 16 self.old self.new }
     {
         let mut left = mask;
+        // By the ports' numbers: an iterator of the set would have this loop in it, and another for desk_report's, which goes downwards.
         for port in 0..MAX_PORTS {
             if left % 2 == 1 {
                 self.byte(port);

@@ -1,13 +1,29 @@
 -- What is shown decides.
-use mathlib.Core.Path.{sym, ap, ◌∙◌}
+use Rattle.std.specs.Prelude.{◌≡◌, None, Some, Option, ok_or}
+use Rattle.std.proofs.Common.{rules, tests}
+use mathlib.Core.Path.{refl, sym, ap, ◌∙◌}
+use Rattle.power_policy_interface.specs.declared.refusal.Refusal.{Refusal}
+use Rattle.desk_follower.specs.declared.Shown.{Shown}
 use Rattle.desk_follower.specs.Follower.{consumer_of}
-use Rattle.abstract_calls.specs.Numbers.{consumer_number}
-use Rattle.bytes_follower_image.specs.Image.{follower_from}
-use Rattle.bytes_follower_calls.proofs.Read.{of_shown}
+use Rattle.abstract_calls.specs.Numbers.{refused_number, consumer_number}
+use Rattle.bytes_follower_image.specs.Image.{follower_from, shown_read}
+use Rattle.bytes_calls.specs.Calls.{consumer_call}
+use Rattle.bytes_follower_calls.proofs.Read.{of_shown, of_none}
 use Rattle.bytes_follower_calls.proofs.consumer.Goals as goal
 
-pub returns-in-Some : goal.returns-in-Some
-returns-in-Some c =
-    c.consumer-in-Some.ensures
-    ∙ (ap consumer_number c.consumer.ensures
-    ∙ of_shown (follower_from c.args.image.now) c.in-Some.shown (λ s. consumer_number (consumer_of s)) (sym c.in-Some.is ∙ c.read_shown.ensures.value))
+pub returns : goal.returns
+returns c = by (shown_read (follower_from c.args.image.now)) refl
+  where
+    by : (o : Option Shown) → shown_read (follower_from c.args.image.now) ≡ o → c.number_of.result ≡ consumer_call (follower_from c.args.image.now)
+    by None q =
+        let t = c.shown_in.ensures.value ∙ ap (λ (x : Option Shown). ok_or x Refusal.Image) q in
+        let m = rw t at c.map.ensures.cases in
+        let n = c.number_of.ensures in
+        let z : c.number_of.result ≡ refused_number 21 = search rules in
+        z ∙ of_none (follower_from c.args.image.now) _ (sym q)
+    by (Some s) q =
+        let t = c.shown_in.ensures.value ∙ ap (λ (x : Option Shown). ok_or x Refusal.Image) q in
+        let m = rw t at c.map.ensures.cases in
+        let n = c.number_of.ensures in
+        let z : c.number_of.result ≡ consumer_number (consumer_of s) = search (rules, tests) in
+        z ∙ of_shown (follower_from c.args.image.now) s (λ x. consumer_number (consumer_of x)) (sym q)

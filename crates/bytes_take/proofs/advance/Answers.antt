@@ -35,7 +35,7 @@ returns-in-None c = λ h i.
     let e : turned 8 m x.p.display h ≡ None = sym (c.in_turn.ensures.value x.s h i refl) ∙ c.in-None.is in
     let f = c.greatest-floor.ensures x.s h i refl in
     c.write_lost.ensures
-    ∙ (sets_all (lost_bytes c.greatest-floor.result) b (sym c.requires.0)
+    ∙ (sets_all (lost_bytes c.greatest-floor.result) b (sym c.told-image)
     ∙ (ap lost_bytes f ∙ sym (ap follower_bytes (ap (λ (o : Option Picture). outcome (greatest m 8 h) o m (above m 8 h)) e))))
 
 pub returns-in-Some : goal.returns-in-Some
@@ -46,6 +46,6 @@ returns-in-Some c = λ h i.
     let q = c.in-Some.q in
     let e : turned 8 m x.p.display h ≡ Some q = sym (c.in_turn.ensures.value x.s h i refl) ∙ c.in-Some.is in
     let u : m ≤ q.number = subst (λ (o : Option Picture). Grows m o) e (turned_grows 8 m x.p.display h) in
-    let l = c.requires.1 in
-    shown_after b x.s h i m q l u (q.number - x.s.number) _ _ (omega (arith, l, u)) refl c.show_after.ensures c.requires.0
+    let l = c.requires in
+    shown_after b x.s h i m q l u (q.number - x.s.number) _ _ (omega (arith, l, u)) refl c.show_after.ensures c.told-image
     ∙ sym (ap follower_bytes (ap (λ (o : Option Picture). outcome (greatest m 8 h) o m (above m 8 h)) e))

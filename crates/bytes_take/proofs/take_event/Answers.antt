@@ -21,7 +21,7 @@ returns-then-ahead-gt-WINDOW c = λ h i.
     let x = c.args in
     let l : x.s.number + 8 < x.e.number = omega (arith, c.if-ahead-gt-WINDOW.true, c.if-e-s.false) in
     c.write_lost.ensures
-    ∙ (sets_all (lost_bytes x.e.number) x.image.now (sym c.requires)
+    ∙ (sets_all (lost_bytes x.e.number) x.image.now (sym c.told-image)
     ∙ sym (ap follower_bytes (beyond x.s h x.e (fits (showing x.s h) i.fits).formed.1 l)))
 
 pub returns : goal.returns

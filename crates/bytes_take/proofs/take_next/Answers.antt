@@ -18,8 +18,8 @@ returns-then-e-ne0 c = λ h i.
     let w = (fits (showing x.s h) i.fits).formed.1 in
     let f = c.greatest-floor.ensures x.s h i refl in
     c.write_lost.ensures
-    ∙ (sets_all (lost_bytes c.greatest-floor.result) b (sym p.0)
-    ∙ (ap lost_bytes f ∙ sym (ap follower_bytes (event-lost x.s h w x.e p.1 c.if-e-ne0.true))))
+    ∙ (sets_all (lost_bytes c.greatest-floor.result) b (sym c.told-image)
+    ∙ (ap lost_bytes f ∙ sym (ap follower_bytes (event-lost x.s h w x.e p c.if-e-ne0.true))))
 
 pub returns : goal.returns
 returns c = λ h i.
@@ -29,4 +29,4 @@ returns c = λ h i.
     let w = (fits (showing x.s h) i.fits).formed.1 in
     c.advance.ensures h i
     ∙ (ap (λ (d : Display). follower_bytes (outcome (greatest m 8 h) (turned 8 m d h) m (above m 8 h))) c.apply-display.ensures
-    ∙ sym (ap follower_bytes (event-turned x.s h w x.e p.1 c.if-e-ne0.false)))
+    ∙ sym (ap follower_bytes (event-turned x.s h w x.e p c.if-e-ne0.false)))

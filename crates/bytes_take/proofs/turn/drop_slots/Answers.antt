@@ -13,5 +13,5 @@ returns-then-count-ge7 c =
     let n : 224 ≤ x.count * 32 = omega (arith, c.if-count-ge7.true) in
     let m : min 224 (x.count * 32) ≡ 224 = omega (arith, n) in
     c.put.ensures
-    ∙ (cleared x.image.now (x.count * 32) c.requires n
+    ∙ (cleared x.image.now (x.count * 32) c.told-image n
     ∙ ap (λ (k : ℕ). take 17 x.image.now ++ (drop (17 + x.count * 32) x.image.now ++ replicate k 0)) (sym m))

@@ -19,7 +19,7 @@ returns-clause-value c =
     let part : List ℕ = take 32 (drop a x.image.now) in
     let e : c.read.result ≡ slot_from x.event part = rw (add-sub_cancel_left a 32) at c.read.ensures in
     λ s h i q.
-    let y = subst (λ (m : ℕ). slot_from m part ≡ Some (held_for h m)) (sym q) (slot_there x.image.now s h x.k i c.requires.1) in
+    let y = subst (λ (m : ℕ). slot_from m part ≡ Some (held_for h m)) (sym q) (slot_there x.image.now s h x.k i c.requires) in
     c.unwrap_or.ensures ∙ ap (λ (o : Option EventPacket). unwrap_or o c.no_packet.result) (e ∙ y)
 
 pub returns-clause-number_value : goal.returns-clause-number_value

@@ -11,15 +11,15 @@ pub returns-then-image-k-eq0 : goal.returns-then-image-k-eq0
 returns-then-image-k-eq0 c = λ s h i e.
     let x = c.args in
     sym (ap (λ (p : EventPacket). p.number)
-    (ap (held_for h) e ∙ slot_empty x.image.now s h i x.k c.requires.1 c.if-image-k-eq0.true))
+    (ap (held_for h) e ∙ slot_empty x.image.now s h i x.k c.requires c.if-image-k-eq0.true))
 
 pub returns-then-event-gt4294967295 : goal.returns-then-event-gt4294967295
 returns-then-event-gt4294967295 c = λ s h i e.
     let x = c.args in
-    absurd (omega (arith, e, c.if-event-gt4294967295.true, slot_low x.image.now s h i x.k c.requires.1 c.if-image-k-eq0.false))
+    absurd (omega (arith, e, c.if-event-gt4294967295.true, slot_low x.image.now s h i x.k c.requires c.if-image-k-eq0.false))
 
 pub returns : goal.returns
 returns c = λ s h i e.
     let x = c.args in
     sym (ap (λ (m : ℕ). (held_for h m).number) e
-    ∙ (slot_full x.image.now s h i x.k c.requires.1 c.if-image-k-eq0.false ∙ sym e))
+    ∙ (slot_full x.image.now s h i x.k c.requires c.if-image-k-eq0.false ∙ sym e))

@@ -1,5 +1,5 @@
 -- Each turn is a step of `take_all`: a packet takes at least one byte, and at most those that are left.
-use Rattle.std.proofs.Common.{◌≡◌, ◌≤◌, ◌+◌, ◌∙◌, ◌++◌, length, arith, refl, length-drop}
+use Rattle.std.proofs.Common.{◌∙◌, arith, refl, length-drop}
 use Rattle.std.proofs.lemmas.Result.{err_from_is_err_and}
 use Rattle.desk_stream.proofs.Takes.{used-within, step-used, step-more, step-stop, none_more}
 use Rattle.desk_stream.proofs.Holds.{holds_first, holds-used, holds_more, holds-stop, holds_all, held_short}
@@ -9,20 +9,16 @@ use Rattle.desk_stream.proofs.take.take_all.Goals as goal
 pub loop-used-init : goal.loop-used-init
 loop-used-init g c = record {
   within = omega arith;
-  sink = refl;
   short = rw c.clear.ensures (omega arith);
   left = refl;
   holds = rw c.clear.ensures (holds_first c.args.desk.now c.args.input.now);
-  due = rw c.clear.ensures (due_first c.args.desk.now c.args.lines.now.sink c.args.input.now _);
+  due = rw c.clear.ensures (due_first c.args.desk.now c.args.sink c.args.input.now _);
 }
-
-pub returns-in_err-add-clause-same : goal.returns-in_err-add-clause-same
-returns-in_err-add-clause-same g c = c.add.ensures.same ∙ c.loop-used.invariant.sink
 
 pub returns-in_err-add-clause-took : goal.returns-in_err-add-clause-took
 returns-in_err-add-clause-took g c =
     let p = err_from_is_err_and c.from_residual.result c.from_residual.ensures.1 in
-    rw (p.1, p.2) (rw c.loop-used.invariant.sink at c.in_err-add.ensures.goes)
+    rw (p.1, p.2) c.in_err-add.ensures.goes
 
 pub overflow_add-used : goal.overflow_add-used
 overflow_add-used g c =
@@ -48,18 +44,14 @@ loop-used-preserved g c =
     let n = c.in-Used.n in
     let b = used-within d l.desk c.step-next.new.self s l.used c.step-next.result.0 i.within i.left p.desk p.next n c.in-Used.is in
     let h = rw (c.as_slice.ensures.value, p.line) at c.in_ok-add.ensures.held in
-    let o = rw (c.as_slice.ensures.value, p.line, i.sink) at c.in_ok-add.ensures.owes in
+    let o = rw (c.as_slice.ensures.value, p.line) at c.in_ok-add.ensures.owes in
     record {
       within = omega (arith, b.1, length-drop l.used s);
-      sink = c.add.ensures.same ∙ i.sink;
       short = rw c.in_ok-add.ensures.held (held_short _ _ (omega (arith, c.as_slice.ensures.fits)));
       left = step-used d l.desk c.step-next.new.self s l.used c.step-next.result.0 i.within i.left p.desk p.next n c.in-Used.is;
-      holds = holds-used d l.desk c.step-next.new.self s l.lines.bytes _ l.used c.step-next.result.0 c.loop-used-test.true i.holds p.desk p.next h n c.in-Used.is b.0;
-      due = due_used d l.desk c.step-next.new.self c.args.lines.now.sink s l.lines.bytes _ _ _ _ l.used c.step-next.result.0 i.due p.desk p.next o n c.in-Used.is;
+      holds = holds-used d l.desk c.step-next.new.self s l.lines _ l.used c.step-next.result.0 c.loop-used-test.true i.holds p.desk p.next h n c.in-Used.is b.0;
+      due = due_used d l.desk c.step-next.new.self c.args.sink s l.lines _ _ _ _ l.used c.step-next.result.0 i.due p.desk p.next o n c.in-Used.is;
     }
-
-pub returns-in-More-clause-same : goal.returns-in-More-clause-same
-returns-in-More-clause-same g c = c.add.ensures.same ∙ c.loop-used.invariant.sink
 
 pub returns-in-More-clause-took : goal.returns-in-More-clause-took
 returns-in-More-clause-took g c =
@@ -70,16 +62,13 @@ pub returns-in-More-clause-collected : goal.returns-in-More-clause-collected
 returns-in-More-clause-collected g c =
     let l = c.loop-used in
     let h = rw (c.as_slice.ensures.value, c.step-next.ensures.line) at c.in_ok-add.ensures.held in
-    holds_more c.args.desk.now l.desk c.step-next.new.self c.args.input.now l.lines.bytes _ l.used c.step-next.result.0 c.loop-used-test.true l.invariant.holds c.step-next.ensures.desk c.step-next.ensures.next h c.in-More.is
+    holds_more c.args.desk.now l.desk c.step-next.new.self c.args.input.now l.lines _ l.used c.step-next.result.0 c.loop-used-test.true l.invariant.holds c.step-next.ensures.desk c.step-next.ensures.next h c.in-More.is
 
 pub returns-in-More-clause-owes : goal.returns-in-More-clause-owes
 returns-in-More-clause-owes g c =
     let l = c.loop-used in
-    let o = rw (c.as_slice.ensures.value, c.step-next.ensures.line, l.invariant.sink) at c.in_ok-add.ensures.owes in
-    due_more c.args.desk.now l.desk c.step-next.new.self c.args.lines.now.sink c.args.input.now l.lines.bytes _ _ _ _ l.used c.step-next.result.0 l.invariant.due c.step-next.ensures.desk c.step-next.ensures.next o c.in-More.is
-
-pub returns-in-Stop-clause-same : goal.returns-in-Stop-clause-same
-returns-in-Stop-clause-same g c = c.add.ensures.same ∙ c.loop-used.invariant.sink
+    let o = rw (c.as_slice.ensures.value, c.step-next.ensures.line) at c.in_ok-add.ensures.owes in
+    due_more c.args.desk.now l.desk c.step-next.new.self c.args.sink c.args.input.now l.lines _ _ _ _ l.used c.step-next.result.0 l.invariant.due c.step-next.ensures.desk c.step-next.ensures.next o c.in-More.is
 
 pub returns-in-Stop-clause-took : goal.returns-in-Stop-clause-took
 returns-in-Stop-clause-took g c =
@@ -90,16 +79,13 @@ pub returns-in-Stop-clause-collected : goal.returns-in-Stop-clause-collected
 returns-in-Stop-clause-collected g c =
     let l = c.loop-used in
     let h = rw (c.as_slice.ensures.value, c.step-next.ensures.line) at c.in_ok-add.ensures.held in
-    holds-stop c.args.desk.now l.desk c.step-next.new.self c.args.input.now l.lines.bytes _ l.used c.step-next.result.0 c.loop-used-test.true l.invariant.holds c.step-next.ensures.desk c.step-next.ensures.next h c.in-Stop.is
+    holds-stop c.args.desk.now l.desk c.step-next.new.self c.args.input.now l.lines _ l.used c.step-next.result.0 c.loop-used-test.true l.invariant.holds c.step-next.ensures.desk c.step-next.ensures.next h c.in-Stop.is
 
 pub returns-in-Stop-clause-owes : goal.returns-in-Stop-clause-owes
 returns-in-Stop-clause-owes g c =
     let l = c.loop-used in
-    let o = rw (c.as_slice.ensures.value, c.step-next.ensures.line, l.invariant.sink) at c.in_ok-add.ensures.owes in
-    due_stop c.args.desk.now l.desk c.step-next.new.self c.args.lines.now.sink c.args.input.now l.lines.bytes _ _ _ _ l.used c.step-next.result.0 l.invariant.due c.step-next.ensures.desk c.step-next.ensures.next o c.in-Stop.is
-
-pub returns-clause-same : goal.returns-clause-same
-returns-clause-same g c = c.loop-used.invariant.sink
+    let o = rw (c.as_slice.ensures.value, c.step-next.ensures.line) at c.in_ok-add.ensures.owes in
+    due_stop c.args.desk.now l.desk c.step-next.new.self c.args.sink c.args.input.now l.lines _ _ _ _ l.used c.step-next.result.0 l.invariant.due c.step-next.ensures.desk c.step-next.ensures.next o c.in-Stop.is
 
 pub returns-clause-took : goal.returns-clause-took
 returns-clause-took g c =
@@ -109,9 +95,9 @@ returns-clause-took g c =
 pub returns-clause-collected : goal.returns-clause-collected
 returns-clause-collected g c =
     let l = c.loop-used in
-    holds_all c.args.desk.now l.desk c.args.input.now l.lines.bytes l.used c.loop-used-test.false l.invariant.short l.invariant.holds
+    holds_all c.args.desk.now l.desk c.args.input.now l.lines l.used c.loop-used-test.false l.invariant.short l.invariant.holds
 
 pub returns-clause-owes : goal.returns-clause-owes
 returns-clause-owes g c =
     let l = c.loop-used in
-    due_all c.args.desk.now l.desk c.args.lines.now.sink c.args.input.now l.lines.bytes _ _ l.used c.loop-used-test.false l.invariant.due
+    due_all c.args.desk.now l.desk c.args.sink c.args.input.now l.lines _ _ l.used c.loop-used-test.false l.invariant.due

@@ -9,11 +9,10 @@ use Rattle.desk_stream.proofs.take.take_all.Given as goal
 abbrev pub invariant-loop-used : goal.invariant-loop-used
 invariant-loop-used g l = record {
   within : l.used ≤ length l.input;
-  sink : l.lines.sink ≡ l.fn.lines.sink;
-  short : length l.lines.bytes ≤ 4096;
+  short : length l.lines ≤ 4096;
   left : but_written (take_all l.fn.desk l.input) ≡ but_written (take_all l.desk (drop l.used l.input));
-  holds : Holds l.fn.desk l.input l.desk l.used l.lines.bytes;
-  due : Due l.fn.desk l.fn.lines.sink l.input (g.W.Write.contents l.fn.out) (g.W.Write.contents l.out) l.desk l.used l.lines.bytes;
+  holds : Holds l.fn.desk l.input l.desk l.used l.lines;
+  due : Due l.fn.desk l.fn.sink l.input (g.W.Write.contents l.fn.out) (g.W.Write.contents l.out) l.desk l.used l.lines;
 }
 
 abbrev pub decreases-loop-used : goal.decreases-loop-used

@@ -1,25 +1,13 @@
--- From each place on the search goes on as from the first.
-use Rattle.std.proofs.Common.{arith, ◌≡◌, ◌-◌, ◌∙◌, suc, sym, ap, ◌+◌, add-one, true, false, ltb}
-use borrow.Author.Tests.{lt-ltb}
-use Rattle.abstract_policy.specs.State.{charger_unpowered}
-use Rattle.machine_state.specs.Memory.{next_powered}
+-- The range is searched from its start on.
+use Rattle.std.proofs.Common.{◌-◌, refl, rules, tests}
+use Rattle.std.proofs.lemmas.Iterator.{YieldsList-from_range}
+use Rattle.std.proofs.lemmas.Iterator.Search.{find_from_yields_List}
+use Rattle.machine_state.proofs.Found.{powered, first}
 use Rattle.machine_state.proofs.memory.next_powered.Goals as goal
 
-pub returns-then-not-unpowered : goal.returns-then-not-unpowered
-returns-then-not-unpowered c =
+pub returns : goal.returns
+returns c =
     let a = c.args in
-    let i = c.loop-i.i in
-    let k : a.count - i ≡ suc (a.count - (i + 1)) = omega arith in
-    let u : charger_unpowered a.records i ≡ false = sym c.unpowered.ensures ∙ c.if-not-unpowered.true in
-    let t : ltb i a.count ≡ true = lt-ltb i a.count (omega arith) in
-    rw (c.loop-i.invariant, k, u, t)
-
-pub loop-i-preserved : goal.loop-i-preserved
-loop-i-preserved c =
-    let a = c.args in
-    let i = c.loop-i.i in
-    let k : a.count - i ≡ suc (a.count - (i + 1)) = omega arith in
-    let u : charger_unpowered a.records i ≡ true = sym c.unpowered.ensures ∙ c.if-not-unpowered.false in
-    let q : next_powered a.records (a.count - i) i ≡ next_powered a.records (a.count - (i + 1)) (i + 1) =
-    rw (k, u) (ap (next_powered a.records (a.count - (i + 1))) (sym (add-one i))) in
-    c.loop-i.invariant ∙ q
+    let chargers = YieldsList-from_range a.«from» a.count (a.count - a.«from») refl refl in
+    first a.records a.«from» a.count c.find.result
+    (find_from_yields_List (powered a.records) _ _ c.find.result c.find.ensures.ran chargers (λ x b q k. search (rules, tests)))

@@ -1,5 +1,5 @@
 -- What was read stands after the bytes before it.
-use Rattle.std.proofs.Common.{◌≡◌, ◌+◌, ◌-◌, ◌<◌, ◌≤◌, [], length, take, drop, arith, sym, refl, ap, ◌∙◌, length-drop, append-nil, None, Some}
+use Rattle.std.proofs.Common.{◌≡◌, ◌-◌, ◌≤◌, length, take, arith, sym, ap, ◌∙◌, length-drop, Some}
 use lib.Seq.{length-take-le}
 use Rattle.desk_report.proofs.Filled.{filled}
 use Rattle.desk_report.proofs.buffer.Bytes.fill.Goals as goal

@@ -1,8 +1,7 @@
 -- What is moved is what follows the first n.
 use Rattle.std.proofs.Common.{◌≡◌, ◌+◌, ◌-◌, ◌≤◌, length, take, drop, min, arith, sym, ap, ◌∙◌, length-drop, length-take}
-use Rattle.std.proofs.lemmas.List.{drop-take}
+use Rattle.std.proofs.lemmas.List.{drop-take, drop_min}
 use Rattle.std.proofs.lemmas.List.Edits.{take-paste}
-use Rattle.desk_report.proofs.Filled.{drop_min}
 use Rattle.desk_report.proofs.buffer.Bytes.forget.Goals as goal
 
 pub returns : goal.returns
@@ -17,4 +16,4 @@ returns g c =
     let t : take (0 + (k - n)) c.copy_within.new.self ≡ take (k - n) (drop n m) = rw (c.copy_within.ensures.after, c.min-first.ensures) (take-paste m 0 (drop n m) (k - n) (omega arith) h) in
     let u : take (k - n) (drop n m) ≡ drop n (take k m) = sym (drop-take n (k - n) m) ∙ (rw (← e)) in
     let z : 0 + (k - n) ≡ k - n = omega arith in
-    rw c.min-first.ensures (rw z at t ∙ (u ∙ (drop_min c.args.n k (take k m) s ∙ ap (drop c.args.n) c.self.view_is)))
+    rw c.min-first.ensures (rw z at t ∙ (u ∙ (rw s at (drop_min c.args.n (take k m)) ∙ ap (drop c.args.n) c.self.view_is)))

@@ -1,8 +1,8 @@
 -- Blanks alone.
-use Rattle.std.proofs.Common.{refl}
+use Rattle.std.proofs.Common.{refl, arith}
 use Rattle.abstract_page.specs.Text.{right}
 use Rattle.desk_report.proofs.text.Columns.new.Goals as goal
 
-pub returns : goal.returns
+pub invariant_of-result : goal.invariant_of-result
 unfolding right
-returns c = record { text = refl; place = refl }
+invariant_of-result c = (omega arith, refl)
