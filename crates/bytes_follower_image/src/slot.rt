@@ -62,7 +62,7 @@ fn read_notices(s: &[u8], count: u8) -> Option<Notices>
     })
 }
 
-// Whether an event can have the number, and answer, orders and count are within what a packet has.
+// Whether an event can have the number, and answer, orders and count are within what a packet has. The answer is its byte, as EventPacket has it.
 fn head_fits(number: u64, answer: u8, orders: u8, count: u8) -> bool
     ensures { result ≡ head_fits number answer orders count }
 {

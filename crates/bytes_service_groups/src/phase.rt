@@ -171,7 +171,7 @@ fn read_stage(a: u8, b: u8) -> Option<Stage>
 }
 
 impl Standing {
-    // Bytes 37 to 46.
+    // Bytes 37 to 46, each by its name, as the groups of bytes_groups.
     pub fn at(s: &[u8]) -> Standing
         ensures { result ≡ standing_at s.now 37 }
     {

@@ -84,7 +84,7 @@ fn advance(image: &mut [u8; FOLLOWER_IMAGE], s: Picture, p: Picture)
     }
 }
 
-// The next event: its notices act, or its error makes the follower lost.
+// The next event: its notices act, or its error makes the follower lost. The answer is its byte, as EventPacket has it.
 fn take_next(image: &mut [u8; FOLLOWER_IMAGE], s: Picture, e: EventPacket)
     requires { e.number ≡ s.number + 1 }
     ensures { (h : Held) → ImageOf image.old s h → image.new ≡ follower_bytes (taken_at (Shown.Picture s) h (Packet.Event e)) }

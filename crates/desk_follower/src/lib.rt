@@ -48,7 +48,8 @@ impl Follower {
         };
     }
 
-    // The held packets applied in turn as long as the next number is held; one with an error makes it lost, with the floor.
+    // The held packets applied in turn as long as the next number is held; one with an error makes it lost, with the floor. The answer is its byte, as
+    // EventPacket has it.
     fn show_in_turn(&mut self, floor: u32, mut shown: Picture)
         ensures { self.new ≡ in_turn window floor shown.number shown.display self.old.held }
     {

@@ -1,6 +1,10 @@
 -- A buffer of at most so many bytes.
-use Rattle.std.specs.Prelude.{ℕ, ◌+◌, ◌<◌, ◌≡◌, cond, leb, List, [], ◌++◌, length, Option, None, Some}
+use Rattle.std.specs.Prelude.{ℕ, ◌+◌, ◌<◌, ◌≡◌, cond, leb, List, [], ◌++◌, length, take, drop, Option, None, Some}
 use Rattle.std.specs.Io.KnownBytes.{Consumes, Keeps, IsAtEnd}
+
+-- a line from a place on, where it has room
+abbrev pub stored_at : List ℕ → ℕ → List ℕ → List ℕ
+stored_at b at line = cond (leb (at + length line) (length b)) (take at b ++ (line ++ drop (at + length line) b)) b
 
 -- bytes after those of a buffer of n, where they have room
 abbrev pub added : ℕ → List ℕ → List ℕ → List ℕ

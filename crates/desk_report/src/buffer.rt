@@ -1,10 +1,19 @@
 // Bytes in a fixed memory: a line, the lines that are not written out yet, the input whose packets are not taken yet.
 ghost use Rattle.std.specs.Prelude.{◌≡◌, ◌+◌, ◌-◌, ◌≤◌, ◌++◌, [], List, ℕ, Option, length, drop};
 ghost use Rattle.std.specs.Option.{option_map};
-ghost use Rattle.desk_report.specs.Buffer.{added, given, Reads};
+ghost use Rattle.desk_report.specs.Buffer.{stored_at, added, given, Reads};
 
 use std::io::Read;
 use std::marker::Model;
+
+// Stores a line from a place on; one that has no room there is not stored. A place and no part of the buffer: a part asks of callers that it lies there.
+pub fn store(buffer: &mut [u8], at: usize, line: &[u8])
+    ensures { buffer.new ≡ stored_at buffer.old at line.now }
+{
+    if line.len() <= buffer.len() && at <= buffer.len() - line.len() {
+        buffer[at..at + line.len()].copy_from_slice(line);
+    }
+}
 
 // At most N bytes, one after the other. An array of its own: arrayvec's vector has no spare room to hand out, into which `fill` reads.
 #[derive(Drop)]
@@ -69,10 +78,8 @@ impl<const N: usize> Bytes<N> {
         requires { length self.old + length bytes.now ≤ N }
         ensures { self.new ≡ self.old ++ bytes.now }
     {
-        let end = self.len + bytes.len();
-        let memory = &mut self.memory[..];
-        memory[self.len..end].copy_from_slice(bytes);
-        self.len = end;
+        store(&mut self.memory, self.len, bytes);
+        self.len += bytes.len();
     }
 
     // Reads once, after the bytes that are there, and says how many bytes came; none where the reader failed.

@@ -1,4 +1,5 @@
-// A run between two reads: the desk, the lines that are not written out yet, and the bytes that are read and not taken yet.
+// A run between two reads: the desk, the lines that are not written out yet, and the bytes that are read and not taken yet. Where lines go
+// is handed on in two, as sink.rt says.
 ghost use Rattle.std.specs.Prelude.{◌≡◌, ◌≤◌, ◌<◌, length, OnOk};
 ghost use Rattle.desk_report.specs.Desk.{end_bytes};
 ghost use Rattle.desk_stream.specs.Ran.{Goes};

@@ -1,6 +1,7 @@
 // A run over what a reader gives: packets, each after its length, are taken, and lines go to a writer. What a packet does and what its line says is the
 // crate `desk_report`'s; here bytes are read and lines written. Each function leaves what a turn of its Reads leaves; that such turns, over
-// any reads, write what is written for the whole input and end at its desk is its theorem `whole`.
+// any reads, write what is written for the whole input and end at its desk is its theorem `whole`. Reader, writer and sink
+// are handed on each as it is: two are lent and one is a value, and a struct of them would be made at each call.
 #![tactic(auto)]
 
 mod input;

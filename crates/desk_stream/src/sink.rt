@@ -17,7 +17,7 @@ pub struct Sink {
 }
 
 impl Sink {
-    // Writes bytes.
+    // Writes bytes. That a write which fails ends the run where lines are needed is a clause of each call: no value keeps it that could have an invariant.
     pub(crate) fn write<W: Write>(self, out: &mut W, bytes: &[u8]) -> Result<(), End>
         ensures goes { Goes self result }
         ensures wrote { OnOk result (Wrote self (W.contents out.old) (W.contents out.new) bytes.now) }

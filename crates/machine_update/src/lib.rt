@@ -1,4 +1,5 @@
 // The update of the consumer from one order to the next (consumer.rs). Where the Rust awaits a device, a step ends at a phase.
+// Memory is a parameter of each step and no field beside what is present: that stays for the whole call, and each step has another memory.
 #![tactic(auto)]
 
 ghost use Rattle.std.specs.Prelude.{◌≡◌};

@@ -30,7 +30,7 @@ impl PowerCapability {
     }
 }
 
-// Power capability with consumer flags.
+// Power capability with consumer flags. Two structs, here and below, as the Rust has them.
 #[derive(Clone, Copy, PartialEq, Eq)]
 pub struct ConsumerPowerCapability {
     pub capability: PowerCapability,

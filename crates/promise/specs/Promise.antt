@@ -4,7 +4,7 @@
 -- Ours keep it (proofs/Promised.antt), and only one behaviour does (Same.antt, proofs/OnlyOne.antt). The whole claim is Claim.antt: beside Promise and Meaning
 -- the bytes themselves (Layout.antt), the public documents, and the programs that do not keep it (Testers.antt).
 --
--- To read what is cited, in this order; 2,054 lines, none of them the machine's (tests/reach.py):
+-- To read what is cited, in this order; 2,059 lines, none of them the machine's (tests/reach.py):
 --   promise      here, then Runs.antt: what the link hands over and what is shown
 --   calls        abstract_calls specs/Functions.antt, ServiceCall.antt, DeskCall.antt (each call, of any program and of the definition), Calls.antt, Definition.antt
 --   run          abstract_policy specs/Policy.antt, Returns.antt, Orders.antt, Given.antt

@@ -40,6 +40,7 @@ struct Vector {
     answer: Answer,
 }
 
+// Each of the functions below matches the operation for itself, as `Vector` says.
 impl Vector {
     // What follows the operation.
     fn read<R: Read>(operation: u8, input: &mut R) -> io::Result<Vector> {
