@@ -59,7 +59,7 @@ def bare(text):
 
 
 # Functions of a result that no two results share: `numbered`, as no two conditions have one number (power_policy_interface proofs/Numbered.antt), and `stepped_by`,
-# which keeps step, number and service. `turned_back_by` leaves out what an accepted call gives, so that it fixes a result only where that is (), or where
+# which keeps step, number and service (machine_service proofs/Results.antt). `turned_back_by` leaves out what an accepted call gives, so that it fixes a result only where that is (), or where
 # another clause says what it is.
 WHOLE = re.compile(r"(?:numbered|stepped_by self) result$")
 TOLD = re.compile(r"IfOk result \(λ (\w+)\. (?:(?:(?!\b\1\b)[^{}])+ ≡ Some \1(\.\d)?|\1(\.\d)? ≡ (?:(?!\b\1\b)[^{}])+)\) \}")
