@@ -54,8 +54,9 @@ def owner(line):
 def cited(clauses):
     """The definitions that a contract cites, as a row of docs/FUNCTIONS.md names them."""
     found = []
-    for left, right in re.findall(r"(\S+) ≡ \(?(?:option_map )?([a-z_][\w]*)", clauses):
-        if right not in found and right not in ("record", "ok_or", "cond", "sets", "length"):
+    # (also behind an equation's `ok_or` or `cond`, and what a writer's clause says that it wrote)
+    for right in re.findall(r"(?:\S+ ≡ \(?(?:ok_or \(+|cond \(+)?(?:option_map )?|Wrote \()([a-z_][\w]*)", clauses):
+        if right not in found and right not in ("record", "ok_or", "cond", "sets", "length", "ltb", "eqb", "number", "b"):
             found.append(right)
     return ", ".join("`%s`" % name for name in found) or "the value, in the contract"
 
@@ -109,7 +110,7 @@ def functions(crate):
 def breaks(crate):
     """The functions that the edits of a crate break: path of the edit, line, function, and the two lines after it. By the number of the edit."""
     paths = [path for folder in (os.path.join("crates", crate, "must-fail"), os.path.join("tests", "edits", crate)) for path in files(folder, ".edit")]
-    for path in sorted(paths, key=os.path.basename):
+    for path in sorted(paths, key=lambda path: (len(os.path.basename(path)), os.path.basename(path))):
         lines = text(path).split("\n") + ["", ""]
         for k, line in enumerate(lines):
             if line.startswith("# breaks: "):
@@ -120,7 +121,7 @@ def answers(crate):
     """The column of wrong answers, by function: each in the words of its edit, with the edit's number."""
     found = {}
     for path, _, name, said, _ in breaks(crate):
-        m = re.search(r"wrong_(\d)\.edit$", path)
+        m = re.search(r"wrong_(\d+)\.edit$", path)
         if m:
             found.setdefault(name, []).append("%s (%s)" % (said[2:], m.group(1)))
     return {name: "; ".join(said) for name, said in found.items()}
@@ -203,7 +204,8 @@ def write():
             if titles and titles[0] == "function":
                 for _, cell in body:
                     name, _ = function(alone, cell[0], there)
-                    kept[name] = cell[1]
+                    if cell[1] != "the value, in the contract":
+                        kept[name] = cell[1]
         title = next(line for line in section.split("\n") if line.startswith("| function |"))
         by_module = any(alone for _, alone, titles, _ in tables(("## " + section).split("\n")) if titles and titles[0] == "function")
         wanted = {}

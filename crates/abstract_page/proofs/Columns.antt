@@ -31,6 +31,17 @@ right_short m k s e =
     rw (p, drop-append-le (length s) (replicate (length s) blank ++ replicate m blank) s h)
     (ap (λ (t : List ℕ). t ++ s) (drop_at (replicate (length s) blank) (replicate m blank) (length s) q))
 
+-- a longer one does not change with one byte more
+pub right_long : (k b : ℕ) (s : List ℕ) → k ≤ length s → right k (b ∷ s) ≡ right k s
+unfolding right
+right_long k b s h =
+    let j = length s - k in
+    let r = replicate k blank in
+    let e : suc (length s) ≡ length r + suc j = omega (arith, length-replicate k blank) in
+    let f : length s ≡ length r + j = omega (arith, length-replicate k blank) in
+    ap (λ (n : ℕ). drop n (r ++ (b ∷ s))) e
+    ∙ (drop-append-add r (b ∷ s) (suc j) ∙ (sym (drop-append-add r s j) ∙ ap (λ (n : ℕ). drop n (r ++ s)) (sym f)))
+
 set_last : (m b : ℕ) (s : List ℕ) → set (replicate (suc m) blank ++ s) m b ≡ replicate m blank ++ (b ∷ s)
 set_last zero b s = refl
 set_last (suc m) b s = ap (λ (l : List ℕ). blank ∷ l) (set_last m b s)

@@ -102,13 +102,14 @@ pub fn closed(answer: Result<(), psu::Error>, orders: u8) -> u64
     }
 }
 
-pub fn step(step: Result<Step, Refusal>) -> u64
-    ensures { result ≡ step_number (numbered step) }
+// What a step comes to. What turned it back is any byte, as in `refused`: a `Refusal` would ask more of callers.
+pub fn step(step: Result<Step, u8>) -> u64
+    ensures { result ≡ step_number step }
 {
     match step {
         Ok(Step::Order(o)) => order(o),
         Ok(Step::Closed(answer, orders)) => closed(answer, orders),
-        Err(r) => refused(u8::from(r)),
+        Err(turned_back) => refused(turned_back),
     }
 }
 
@@ -119,11 +120,24 @@ pub fn written(length: usize) -> u64
     pack(3, (length % 256) as u8, 0, 0, 0, 0)
 }
 
-// What writing into a buffer gave: a length, or what turned the write back, as in `number_of`.
-pub fn stored(w: Result<usize, Refusal>) -> u64
-    ensures { result ≡ written_as (numbered w) }
+// What writing into a buffer gave: a length, or what turned the write back, any byte as in `step`.
+pub fn stored(w: Result<usize, u8>) -> u64
+    ensures { result ≡ written_as w }
 {
-    number_of(w.map(written))
+    match w {
+        Ok(length) => written(length),
+        Err(number) => refused(number),
+    }
+}
+
+// What a write gave, with the number of what turned it back. No From: both types are the library's (orphan-impl).
+pub fn by_number(w: Result<usize, Refusal>) -> Result<usize, u8>
+    ensures { result ≡ numbered w }
+{
+    match w {
+        Ok(length) => Ok(length),
+        Err(refusal) => Err(u8::from(refusal)),
+    }
 }
 
 pub fn done() -> u64

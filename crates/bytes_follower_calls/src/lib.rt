@@ -120,6 +120,6 @@ pub fn write_page(image: &[u8], buffer: &mut [u8]) -> u64
 {
     match page_in(image) {
         Err(refusal) => numbers::number_of(Err(refusal)),
-        Ok(page) => numbers::stored(page::write(page, buffer)),
+        Ok(page) => numbers::stored(numbers::by_number(page::write(page, buffer))),
     }
 }

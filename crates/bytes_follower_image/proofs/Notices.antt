@@ -22,7 +22,7 @@ use Rattle.interface_records.specs.declared.group.Group.{Group}
 use Rattle.interface_records.proofs.Groups.{zeros, consumer_back, provider_back, consumer_written, provider_written}
 use Rattle.interface_display.specs.Notices.{filler, listed, padded}
 use Rattle.interface_display.specs.declared.notices.Notices.{Notices}
-use Rattle.interface_display.proofs.Four.{rebuilt, padded_rebuilt, at_most_four}
+use Rattle.interface_display.proofs.Four.{rebuilt, padded_rebuilt, counted, at_most_four}
 use Rattle.wire.specs.WellFormed.{notice_fits, notices_fit}
 use Rattle.bytes_groups.specs.Tagged.{no_group}
 use Rattle.bytes_groups.specs.declared.tagged.Tagged.{Tagged}
@@ -91,7 +91,7 @@ list_back (a ∷ b ∷ c ∷ d ∷ e ∷ l) k h = absurd (omega arith)
 
 pub notices_back : (n : Notices) → padded n ≡ true → notices_fit (listed n) ≡ true → read_back n ≡ Some n
 notices_back n p h =
-    subst (λ (m : Notices). read_back m ≡ Some m) (padded_rebuilt n p) (list_back (listed n) (at_most_four n p) h)
+    subst (λ (m : Notices). read_back m ≡ Some m) (padded_rebuilt n p) (list_back (listed n) (at_most_four n (counted n p).1.0) h)
 
 -- what was read was written so, and is within what a packet has
 

@@ -33,7 +33,11 @@ and_assoc : (x y z : Bool) → (x && (y && z)) ≡ ((x && y) && z)
 and_assoc true y z = refl
 and_assoc false y z = refl
 
-and_true : (z : Bool) → (z && true) ≡ z
+pub and_false : (z : Bool) → (z && false) ≡ false
+and_false true = refl
+and_false false = refl
+
+pub and_true : (z : Bool) → (z && true) ≡ z
 and_true true = refl
 and_true false = refl
 

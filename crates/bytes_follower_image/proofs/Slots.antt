@@ -17,7 +17,7 @@ use Rattle.interface_records.specs.Row.{AllBytes}
 use Rattle.interface_display.specs.Notices.{filler, listed, padded}
 use Rattle.interface_display.specs.declared.notices.Notices.{Notices}
 use Rattle.interface_display.specs.declared.packet.EventPacket.{EventPacket}
-use Rattle.interface_display.proofs.Four.{padded_rebuilt, rebuilt, at_most_four}
+use Rattle.interface_display.proofs.Four.{padded_rebuilt, rebuilt, counted, at_most_four}
 use Rattle.wire.specs.WellFormed.{notice_fits, notices_fit, event_fits}
 use Rattle.desk_follower.specs.Held.{none}
 use Rattle.bytes_groups.specs.Tagged.{tagged_at, tagged_bytes}
@@ -265,7 +265,7 @@ list_bytes (a ∷ b ∷ c ∷ d ∷ e ∷ l) k h = absurd (omega arith)
 packet_below : (p : EventPacket) → Parts p → Below (packet_bytes p)
 packet_below p k =
     let b : Below (notices_bytes p.notices) =
-    subst (λ (n : Notices). Below (notices_bytes n)) (padded_rebuilt p.notices k.form) (list_bytes (listed p.notices) (at_most_four p.notices k.form) k.fits) in
+    subst (λ (n : Notices). Below (notices_bytes n)) (padded_rebuilt p.notices k.form) (list_bytes (listed p.notices) (at_most_four p.notices (counted p.notices k.form).1.0) k.fits) in
     let c = leb-true p.notices.count 4 (and_parts (leb p.notices.count 4) _ k.form).0 in
     places.one (omega arith)
     (places.one (omega (arith, leb-true p.answer 10 k.answer))

@@ -4,7 +4,7 @@ ghost use Rattle.bytes_groups.specs.Tagged.{tagged_at, tagged_bytes, no_group, c
 
 use crate::place::byte;
 use interface_display::AvailableConsumer;
-use interface_records::group::{Group, optional};
+use interface_records::group::Group;
 
 // Seven bytes by value: a kind or a presence, and a contract.
 #[derive(Clone, Copy, PartialEq, Eq)]
@@ -50,11 +50,15 @@ impl Tagged {
         bytes
     }
 
-    // The optional consumer; refused for bytes that none is written as.
+    // The optional consumer; refused for bytes that none is written as. The tag is matched first, as in `Group::option_flagged`.
     pub fn consumer(self) -> Option<Option<AvailableConsumer>>
         ensures { result ≡ optional_from self }
     {
-        optional(self.tag, is_empty(self.group), available_from(self.group))
+        match self.tag {
+            0 if is_empty(self.group) => Some(None),
+            1 => available_from(self.group).map(Some),
+            _ => None,
+        }
     }
 }
 

@@ -7,13 +7,13 @@ ghost use Rattle.std.specs.Prelude.{◌≡◌, ok_or};
 ghost use Rattle.power_policy_interface.specs.Refusal.{numbered};
 ghost use Rattle.power_policy_interface.specs.declared.refusal.Refusal.{Refusal};
 ghost use Rattle.machine_service.specs.Service.{accepted};
-ghost use Rattle.abstract_calls.specs.Lent.{rows_in, written_as};
+ghost use Rattle.abstract_calls.specs.Lent.{written_as};
 ghost use Rattle.machine_state.specs.Phase.{order_of};
 ghost use Rattle.bytes_service_image.specs.Image.{service_from};
 ghost use Rattle.bytes_service_calls.specs.Step.{IsStep, IsWrite, asked_call};
 ghost use Rattle.bytes_calls.specs.Calls.{number_of, start_call, stepped_call, on_service, open_call, answer_call, stand_number, order_call, write_packet_call, write_picture_call};
 
-use abstract_policy::state::{Records, Registration};
+use abstract_policy::state::Records;
 use bytes_calls::numbers;
 use bytes_calls::rows::read_rows;
 use machine_service::{Service, Stepped, send};
@@ -27,13 +27,6 @@ fn service_in(image: &[u8]) -> Result<Service, Refusal>
     ensures { result ≡ ok_or (service_from image.now) Refusal.Image }
 {
     bytes_service_image::read(image).ok_or(Refusal::Image)
-}
-
-// The present records of what is registered.
-fn records_in(registration: Registration, psus: &[u8], chargers: &[u8]) -> Result<Records, Refusal>
-    ensures { result ≡ ok_or (rows_in registration psus.now chargers.now) Refusal.Records }
-{
-    read_rows(registration, psus, chargers).ok_or(Refusal::Records)
 }
 
 // Writes the image of the service after a call that is accepted.
@@ -57,9 +50,14 @@ fn try_call<F: FnOnce(Service, Records) -> Result<Stepped, Refusal>>(
     ensures image_after { (f : _) → IsStep (F.post step) f → image.new ≡ (on_service image.old (service_from image.old) psus.now chargers.now f).bytes }
 {
     let service = service_in(image)?;
-    let records = records_in(service.registration, psus, chargers)?;
-    let stepped = step(service, records)?;
-    Ok(store(image, stepped))
+    // (By a match, and not by a Result of its own: the records of all ports would be copied once more.)
+    match read_rows(service.registration, psus, chargers) {
+        None => Err(Refusal::Records),
+        Some(records) => {
+            let stepped = step(service, records)?;
+            Ok(store(image, stepped))
+        }
+    }
 }
 
 // An event of a kind from a port or a charger, with the present records: kind, device and detail by the numbers that C gives.
@@ -149,7 +147,8 @@ pub fn write_packet(image: &[u8], buffer: &mut [u8]) -> u64
     ensures buffer_after { buffer.new ≡ (write_packet_call (service_from image.now) buffer.old).bytes }
 {
     let packet = service_in(image).and_then(send::packet);
-    numbers::stored(try_write(packet, buffer, wire_writer::write_event))
+    let written = try_write(packet, buffer, wire_writer::write_event);
+    numbers::stored(numbers::by_number(written))
 }
 
 // The full picture of what is held, from the front of the buffer on.
@@ -158,5 +157,6 @@ pub fn write_picture(image: &[u8], buffer: &mut [u8]) -> u64
     ensures buffer_after { buffer.new ≡ (write_picture_call (service_from image.now) buffer.old).bytes }
 {
     let picture = service_in(image).and_then(send::picture);
-    numbers::stored(try_write(picture, buffer, wire_writer::write_picture))
+    let written = try_write(picture, buffer, wire_writer::write_picture);
+    numbers::stored(numbers::by_number(written))
 }

@@ -6,7 +6,7 @@ ghost use Rattle.bytes_service_groups.specs.Notices.{notices_bytes, notices_from
 
 use bytes_groups::place;
 use bytes_groups::tagged::{Tagged, is_empty};
-use interface_records::group::{Group, optional};
+use interface_records::group::Group;
 use machine_state::memory::{Disconnected, Notices, ProviderNotice};
 use power_policy_interface::capability::DisconnectFlags;
 use power_policy_interface::service::UnconstrainedState;
@@ -107,25 +107,31 @@ impl Triple {
         (self.a, self.b) == (0, 0)
     }
 
+    // Here and below: the tag is matched first, as in `Group::option_flagged`.
     fn disconnected(self) -> Option<Option<Disconnected>>
         ensures { result ≡ disconnected_read self }
     {
-        let flags = DisconnectFlags::try_from(self.b).ok();
-        let disconnected = flags.map(|flags| Disconnected {
-            port: self.a,
-            flags,
-        });
-        optional(self.tag, self.is_zero(), disconnected)
+        match self.tag {
+            0 if self.is_zero() => Some(None),
+            1 => Some(Some(Disconnected {
+                port: self.a,
+                flags: DisconnectFlags::try_from(self.b).ok()?,
+            })),
+            _ => None,
+        }
     }
 
     fn unconstrained(self) -> Option<Option<UnconstrainedState>>
         ensures { result ≡ unconstrained_read self }
     {
-        let unconstrained = (self.a <= 1).then_some(UnconstrainedState {
-            unconstrained: self.a == 1,
-            available: self.b,
-        });
-        optional(self.tag, self.is_zero(), unconstrained)
+        match self.tag {
+            0 if self.is_zero() => Some(None),
+            1 if self.a <= 1 => Some(Some(UnconstrainedState {
+                unconstrained: self.a == 1,
+                available: self.b,
+            })),
+            _ => None,
+        }
     }
 }
 

@@ -3,6 +3,7 @@
 use Rattle.std.specs.Prelude.{None, Option, Some}
 use mathlib.Core.Path.{◌≡◌, refl, ap, subst, ◌∙◌}
 use mathlib.Core.Bool.{Bool, true, false, cond}
+use mathlib.Core.List.{List}
 use Prim.Native.Nat.{ℕ, zero, suc, ◌+◌, ◌≤◌, ◌<◌}
 use native.Mathlib.Omega.{arith}
 use lib.Dec.{eqb, leb}
@@ -14,6 +15,7 @@ use Rattle.power_policy_interface.specs.declared.capability.ProviderPowerCapabil
 use Rattle.power_policy_interface.specs.declared.service.UnconstrainedState.{UnconstrainedState}
 use Rattle.power_policy_interface.proofs.OneByte.{reason_read_write, reason_write_read}
 use Rattle.interface_records.specs.Group.{provider_from, all_zero}
+use Rattle.interface_records.specs.Row.{AllBytes}
 use Rattle.interface_records.specs.declared.group.Group.{Group}
 use Rattle.interface_records.proofs.Groups.{zeros, provider_back, provider_written}
 use Rattle.bytes_groups.specs.Tagged.{no_group}
@@ -22,7 +24,7 @@ use Rattle.bytes_groups.proofs.Places.{Below, none, one}
 use Rattle.bytes_groups.proofs.Consumers.{GroupBytes, TaggedBytes, empty_bytes, provider_bytes, provider_within, no_group_lem}
 use Rattle.machine_state.specs.declared.memory.Disconnected.{Disconnected}
 use Rattle.machine_state.specs.declared.memory.ProviderNotice.{ProviderNotice}
-use Rattle.bytes_service_groups.specs.Notices.{triple_bytes, provider_tagged, disconnected_triple, unconstrained_triple, connected_with, provider_cases, provider_read, disconnected_with, disconnected_cases, disconnected_read, unconstrained_cases, unconstrained_read}
+use Rattle.bytes_service_groups.specs.Notices.{triple_at, triple_bytes, provider_tagged, disconnected_triple, unconstrained_triple, connected_with, provider_cases, provider_read, disconnected_with, disconnected_cases, disconnected_read, unconstrained_cases, unconstrained_read}
 use Rattle.bytes_service_image.specs.Typed.{ProviderTyped}
 use Rattle.bytes_service_image.specs.WellFormed.{provider_fits, disconnected_fits, unconstrained_fits}
 use Rattle.bytes_service_groups.specs.declared.notices.Triple.{Triple}
@@ -34,6 +36,9 @@ pub record TripleBytes (g : Triple) : Type 0 where
   pub tag : g.tag < 256
   pub a : g.a < 256
   pub b : g.b < 256
+
+pub triple_at_lem : (s : List ℕ) (at : ℕ) → AllBytes s → TripleBytes (triple_at s at)
+triple_at_lem s at h = record { tag = h (at + 0); a = h (at + 1); b = h (at + 2) }
 
 pub triple_bytes_lem : (g : Triple) → TripleBytes g → Below (triple_bytes g)
 triple_bytes_lem g h = one h.tag (one h.a (one h.b none))

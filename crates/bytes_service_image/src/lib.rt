@@ -43,7 +43,11 @@ pub fn read(image: &[u8]) -> Option<Service>
     if image.len() != SERVICE_IMAGE || image[0] != 1 {
         return None;
     }
-    parts(image).filter(|s| well_formed(*s))
+    let service = parts(image)?;
+    if !well_formed(service) {
+        return None;
+    }
+    Some(service)
 }
 
 // Writes the image of a service; bytes of another length than 67 stay.

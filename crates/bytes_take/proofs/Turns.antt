@@ -80,6 +80,12 @@ turned_grows (suc k) m d h =
     let d' = all_applied (held_for h (m + 1)).notices d in
     grows_at m d (turned k (m + 1) d' h) (holds h (m + 1)) (eqb (held_for h (m + 1)).answer 0) (less m (turned k (m + 1) d' h) (turned_grows k (m + 1) d' h))
 
+pub some_above : (n : ℕ) (p q : Picture) → n < p.number → Some p ≡ Some q → n < q.number
+some_above n p q l e =
+    let z : p ≡ q = cc in
+    let a : p.number ≡ q.number = ap (λ (x : Picture). x.number) z in
+    omega (arith, l, a)
+
 -- what is held then
 
 later : (f m : ℕ) (h : Held) (o : Option Picture) → Grows (m + 1) o → outcome f o (m + 1) (dropped h (m + 1)) ≡ outcome f o m h

@@ -1,9 +1,7 @@
 // Bytes in a fixed memory: a line, the lines that are not written out yet, the input whose packets are not taken yet.
-ghost use Rattle.std.specs.Prelude.{◌≡◌, ◌+◌, ◌-◌, ◌≤◌, ◌++◌, [], List, ℕ, Option, length, drop};
-ghost use Rattle.std.specs.Option.{option_map};
-ghost use Rattle.desk_report.specs.Buffer.{stored_at, added, given, Reads};
+ghost use Rattle.std.specs.Prelude.{◌≡◌, ◌+◌, ◌-◌, ◌≤◌, ◌++◌, [], length, drop};
+ghost use Rattle.desk_report.specs.Buffer.{stored_at, added};
 
-use std::io::Read;
 use std::marker::Model;
 
 // Stores a line from a place on; one that has no room there is not stored. A place and no part of the buffer: a part asks of callers that it lies there.
@@ -15,7 +13,7 @@ pub fn store(buffer: &mut [u8], at: usize, line: &[u8])
     }
 }
 
-// At most N bytes, one after the other. An array of its own: arrayvec's vector has no spare room to hand out, into which `fill` reads.
+// At most N bytes, one after the other. An array of its own: of arrayvec's vector each call would answer a Result to be dropped, or a drain to be let go.
 #[derive(Drop)]
 pub struct Bytes<const N: usize> {
     memory: [u8; N],
@@ -80,18 +78,6 @@ impl<const N: usize> Bytes<N> {
     {
         store(&mut self.memory, self.len, bytes);
         self.len += bytes.len();
-    }
-
-    // Reads once, after the bytes that are there, and says how many bytes came; none where the reader failed.
-    pub fn fill<R: Read>(&mut self, reader: &mut R) -> Option<usize>
-        ensures { (c : Option (List ℕ)) × (result ≡ option_map length c) × (self.new ≡ self.old ++ given c) × Reads N self.old (R.remaining reader.old) (R.remaining reader.new) c }
-    {
-        let memory = &mut self.memory[..];
-        let Ok(n) = reader.read(&mut memory[self.len..]) else {
-            return None;
-        };
-        self.len += n;
-        Some(n)
     }
 
     // Forgets the first n bytes: the others move to the front.

@@ -129,14 +129,11 @@ pub fn write(page: Page, buffer: &mut [u8]) -> Result<usize, Refusal>
     if buffer.len() < PAGE {
         return Err(Refusal::Page);
     }
-    let lines = [
-        number_columns(page.number).line(b"number              "),
-        state_columns(page.state).line(b"state               "),
-        number_columns(page.port).line(b"port                "),
-        number_columns(page.mv).line(b"millivolts          "),
-        number_columns(page.ma).line(b"milliamps           "),
-        ports_columns(page.tracked).line(b"tracked ports       "),
-    ];
-    buffer[..PAGE].copy_from_slice(lines.as_flattened());
+    number_columns(page.number).line(b"number              ", buffer, 0);
+    state_columns(page.state).line(b"state               ", buffer, 41);
+    number_columns(page.port).line(b"port                ", buffer, 82);
+    number_columns(page.mv).line(b"millivolts          ", buffer, 123);
+    number_columns(page.ma).line(b"milliamps           ", buffer, 164);
+    ports_columns(page.tracked).line(b"tracked ports       ", buffer, 205);
     Ok(PAGE)
 }

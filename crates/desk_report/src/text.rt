@@ -1,10 +1,11 @@
 // Decimal digits and fixed words, as ASCII bytes. Not by `impl Display` and `write!`: their contracts say what is written where they end
 // well, and not that they do, and here no line and no page can fail.
 ghost use Rattle.std.specs.Prelude.{◌≡◌, ◌++◌, ◌+◌, ◌≤◌, ℕ, List, [], ◌∷◌, eqb, length};
+ghost use Rattle.std.proofs.lemmas.List.Edits.{sets};
 ghost use Rattle.abstract_page.specs.Text.{newline, decimal, word, right};
 ghost use Rattle.desk_report.specs.Page.{end_of};
 
-use crate::buffer::Bytes;
+use crate::buffer::{Bytes, store};
 use interface_display::State;
 use std::marker::Model;
 
@@ -87,14 +88,14 @@ impl Columns {
         &self.bytes[self.from..]
     }
 
-    // The line of a name and this: each in its 20 columns, and a newline.
-    pub(crate) fn line(&self, name: &[u8; 20]) -> [u8; 41]
-        ensures { result ≡ name.now ++ (right 20 self.now ++ (newline ∷ [])) }
+    // Stores the line of a name and this at its place: each in its 20 columns, and a newline. A place and no part, as `store`.
+    pub(crate) fn line(&self, name: &[u8; 20], buffer: &mut [u8], at: usize)
+        requires { at + 41 ≤ length buffer.old }
+        ensures { buffer.new ≡ sets buffer.old at (name.now ++ (right 20 self.now ++ (newline ∷ []))) }
     {
-        let mut line = [b'\n'; 41];
-        line[..20].copy_from_slice(name);
-        line[20..40].copy_from_slice(&self.bytes);
-        line
+        store(buffer, at, name);
+        store(buffer, at + 20, &self.bytes);
+        buffer[at + 40] = b'\n';
     }
 }
 

@@ -1,6 +1,8 @@
 // A run between two reads: the desk, the lines that are not written out yet, and the bytes that are read and not taken yet. Where lines go
 // is handed on in two, as sink.rt says.
-ghost use Rattle.std.specs.Prelude.{◌≡◌, ◌≤◌, ◌<◌, length, OnOk};
+ghost use Rattle.std.specs.Prelude.{◌≡◌, ◌≤◌, ◌<◌, ◌++◌, ℕ, List, Option, length, OnOk};
+ghost use Rattle.std.specs.Option.{option_map};
+ghost use Rattle.desk_report.specs.Buffer.{given, Reads};
 ghost use Rattle.desk_report.specs.Desk.{end_bytes};
 ghost use Rattle.desk_stream.specs.Ran.{Goes};
 ghost use Rattle.desk_stream.specs.Took.{Took, Read};
@@ -18,6 +20,20 @@ pub(crate) struct Stream {
     pub(crate) desk: Desk,
     pub(crate) lines: Bytes<4096>,
     pub(crate) input: Bytes<4096>,
+}
+
+// Reads once, after the bytes that are there, and says how many bytes came; none where the reader failed. They come by a memory of its own:
+// that of `Bytes` is lent to no reader, so that this library alone calls the system.
+fn fill<R: Read>(input: &mut Bytes<4096>, reader: &mut R) -> Option<usize>
+    ensures { (c : Option (List ℕ)) × (result ≡ option_map length c) × (input.new ≡ input.old ++ given c) × Reads 4096 input.old (R.remaining reader.old) (R.remaining reader.new) c }
+{
+    let mut chunk = [0; 4096];
+    let room = input.room();
+    let Ok(n) = reader.read(&mut chunk[..room]) else {
+        return None;
+    };
+    input.extend(&chunk[..n]);
+    Some(n)
 }
 
 impl Stream {
@@ -54,7 +70,7 @@ impl Stream {
         ensures took { Read self.old.desk sink self.old.input self.new.desk self.new.input result }
         ensures passes { Passes self.old.desk sink self.old.input (R.remaining reader.old) (R.remaining reader.new) (W.contents out.old) (W.contents out.new) self.new.desk self.new.input result }
     {
-        match self.input.fill(reader) {
+        match fill(&mut self.input, reader) {
             None => Err(End::Unread),
             Some(0) => {
                 self.finish(sink, out)?;

@@ -1,19 +1,31 @@
 -- A bit is 0 or 1; so many bits are at most their number, and the library counts them alike; and 1 shifted left by a port's number,
 -- below 16, is not cut.
 -- Assumes nothing.
-use mathlib.Core.Path.{◌≡◌, ap, sym, ◌∙◌}
-use Prim.Native.Nat.{ℕ, zero, suc, ◌+◌, ◌*◌, ◌%◌, ◌^◌, ◌≤◌, ◌<◌, zero-le}
+use mathlib.Core.Path.{◌≡◌, refl, ap, sym, ◌∙◌}
+use Prim.Native.Nat.{ℕ, zero, suc, ◌+◌, ◌*◌, ◌/◌, ◌%◌, ◌^◌, ◌≤◌, ◌<◌, zero-le}
 use native.Mathlib.Nat.{mod-lt, mod-eq_of_lt, mod-one}
+use native.Mathlib.Numerals.{add-one}
 use native.Mathlib.Omega.{arith}
+use lib.Bits.{bit_and, and_mask}
 use lib.Count.{ones_cat, ones_step}
 use Rattle.std.specs.Prelude.{count_ones}
 use Rattle.std.proofs.lemmas.Nat.Bits.{bit_at-lt}
 use Rattle.std.proofs.lemmas.Nat.{one_shl, ones_le_self, mod-pow-add, pow_pos}
 use Rattle.interface_display.specs.Providers.{bit_at, ones}
 
+pub bit_le : (m p : ℕ) → bit_at m p ≤ 1
+bit_le m p = omega (arith, bit_at-lt m p)
+
 pub ones_le : (m n : ℕ) → ones m n ≤ n
 ones_le m zero = zero-le
-ones_le m (suc n) = omega (arith, ones_le m n, bit_at-lt m n)
+ones_le m (suc n) = omega (arith, ones_le m n, bit_le m n)
+
+-- bit 0 of a shift to the right is the bit
+pub tested : (m p : ℕ) → bit_and (m / 2 ^ p) 1 ≡ bit_at m p
+tested m p = and_mask (m / 2 ^ p) 1
+
+pub ones_next : (m i : ℕ) → ones m (i + 1) ≡ ones m i + bit_at m i
+ones_next m i = rw add-one refl
 
 pub shifted : (p : ℕ) → p < 16 → (1 * 2 ^ p) % 65536 ≡ 2 ^ p
 shifted p h = one_shl p 16 h

@@ -1,4 +1,4 @@
--- Four places: of a count of four or more all are meant; a notice pushed comes last; and well-formed notices are those of their list.
+-- Four places: at most four notices are meant, whatever the count; a notice pushed comes last; and well-formed notices are those of their list.
 -- Assumes nothing.
 use Rattle.std.specs.Prelude.{None, Some}
 use mathlib.Core.Path.{◌≡◌, refl, ap, sym, ◌∙◌}
@@ -29,8 +29,8 @@ counted n h =
     let b = and_parts (eqb (length n.events) 4) _ a.1 in
     (leb-true n.count 4 a.0, (eqb-true (length n.events) 4 b.0, b.1))
 
-pub at_most_four : (n : Notices) → padded n ≡ true → length (listed n) ≤ 4
-at_most_four n h = omega (arith, length-take n.count n.events, (counted n h).0)
+pub at_most_four : (n : Notices) → length n.events ≡ 4 → length (listed n) ≤ 4
+at_most_four n h = omega (arith, h, length-take n.count n.events)
 
 -- one notice more
 

@@ -134,11 +134,16 @@ impl Group {
         C::from_parts(self.capability(), self.flags)
     }
 
-    // A presence byte and a capability with flags.
+    // A presence byte and a capability with flags. The byte is matched first: `optional` is handed both cases worked out, which made the reading of
+    // the service's image half as long again.
     pub fn option_flagged<C: FlaggedCapability>(self) -> Option<Option<C>>
         ensures { result ≡ option_from (λ g. C.parts_from (capability_from g) g.flags) self }
     {
-        optional(self.number, self.is_zero(), self.flagged())
+        match self.number {
+            0 if self.is_zero() => Some(None),
+            1 => self.flagged().map(Some),
+            _ => None,
+        }
     }
 
     // A number with no capability.

@@ -20,18 +20,15 @@ use power_policy_service::provider::{
 };
 
 // What a request is granted, or the error of a port that cannot provide. The power state is set even then.
-fn grant(present: Present, memory: Memory, requester: u8, request: ProviderPowerCapability) -> Turn
-    ensures { result ≡ request_of present.registration memory requester request present.records }
+fn grant(present: &Present, memory: Memory, requester: u8, request: ProviderPowerCapability) -> Turn
+    ensures { result ≡ request_of present.now.registration memory requester request present.now.records }
 {
-    let Present {
-        registration,
-        records,
-    } = present;
-    let total = total_with_request(records.psus, registration.ports, requester, request);
+    let registration = present.registration;
+    let total = total_with_request(present.records.psus, registration.ports, requester, request);
     let power = power_state(registration.config, total);
     let mut set = memory;
     set.state.current_provider_state = power;
-    match records.psu(requester).can_connect_provider() {
+    match present.records.psu(requester).can_connect_provider() {
         Ok(()) => Turn {
             phase: Phase::Providing(requester, target_power(registration.config, power, request)),
             memory: set,
@@ -41,8 +38,8 @@ fn grant(present: Present, memory: Memory, requester: u8, request: ProviderPower
 }
 
 // Attempts to connect the requester as a provider.
-fn connect_provider(present: Present, memory: Memory, requester: u8) -> Turn
-    ensures { result ≡ connect_provider_of present.registration memory requester present.records }
+fn connect_provider(present: &Present, memory: Memory, requester: u8) -> Turn
+    ensures { result ≡ connect_provider_of present.now.registration memory requester present.now.records }
 {
     match present.records.psu(requester).requested_provider_capability {
         None => close(Ok(()), memory),
@@ -60,33 +57,30 @@ fn post_provider_connected(mut memory: Memory, port: u8, target: ProviderPowerCa
 }
 
 // When a provider is removed: untracked, the power state computed anew, and a notice. An untracked port changes nothing.
-fn post_provider_removed(present: Present, mut memory: Memory, port: u8) -> Memory
-    ensures { result ≡ remove_provider_of present.registration memory port present.records }
+fn post_provider_removed(present: &Present, mut memory: Memory, port: u8) -> Memory
+    ensures { result ≡ remove_provider_of present.now.registration memory port present.now.records }
 {
     if !memory.state.connected_providers.remove(port) {
         return memory;
     }
-    let Present {
-        registration,
-        records,
-    } = present;
-    let total = compute_total_provider_power_mw(records.psus, registration.ports);
+    let registration = present.registration;
+    let total = compute_total_provider_power_mw(present.records.psus, registration.ports);
     memory.state.current_provider_state = power_state(registration.config, total);
     memory.notices.provider = Some(ProviderNotice::Disconnected(port));
     memory
 }
 
 // A port no longer provides or consumes. It need not be the consumer's, and so port and reason are no Disconnected.
-fn depart(present: Present, memory: Memory, port: u8, flags: DisconnectFlags) -> Turn
-    ensures { result ≡ depart_of present.registration memory port flags present.records }
+fn depart(present: &Present, memory: Memory, port: u8, flags: DisconnectFlags) -> Turn
+    ensures { result ≡ depart_of present.now.registration memory port flags present.now.records }
 {
     let removed = post_provider_removed(present, memory, port);
     present.update_current_consumer(removed, flags)
 }
 
 // An event from a port.
-pub fn process_psu_event(present: Present, memory: Memory, event: Event) -> Turn
-    ensures { result ≡ process_of present.registration memory event.port event.event present.records }
+pub fn process_psu_event(present: &Present, memory: Memory, event: Event) -> Turn
+    ensures { result ≡ process_of present.now.registration memory event.port event.event present.now.records }
 {
     match event.event {
         EventData::Attached => close(Ok(()), memory),
@@ -131,8 +125,8 @@ fn settle(memory: Memory, new: AvailableConsumer) -> Turn
 }
 
 // A stage of the new consumer is done: the next one.
-fn after_stage(present: Present, memory: Memory, stage: Stage, new: AvailableConsumer) -> Turn
-    ensures { result ≡ after_stage present.registration memory stage new present.records }
+fn after_stage(present: &Present, memory: Memory, stage: Stage, new: AvailableConsumer) -> Turn
+    ensures { result ≡ after_stage present.now.registration memory stage new present.now.records }
 {
     match stage {
         Stage::Psu => settle(memory, new),
@@ -144,8 +138,8 @@ fn after_stage(present: Present, memory: Memory, stage: Stage, new: AvailableCon
 }
 
 // The open order is done: the next one, or the close.
-fn after_order(present: Present, phase: Phase, memory: Memory) -> Turn
-    ensures { result ≡ after_order present.registration phase memory present.records }
+fn after_order(present: &Present, phase: Phase, memory: Memory) -> Turn
+    ensures { result ≡ after_order present.now.registration phase memory present.now.records }
 {
     match phase {
         Phase::Closed(answer) => close(answer, memory),
@@ -173,13 +167,13 @@ fn after_order(present: Present, phase: Phase, memory: Memory) -> Turn
 
 // The answer to an order. An error ends the event.
 pub fn answered(
-    present: Present,
+    present: &Present,
     phase: Phase,
     order: Order,
     memory: Memory,
     answer: Result<(), psu::Error>,
 ) -> Turn
-    ensures { result ≡ answered_of present.registration phase order memory answer present.records }
+    ensures { result ≡ answered_of present.now.registration phase order memory answer present.now.records }
 {
     match outcome(order, answer) {
         Ok(()) => after_order(present, phase, memory),

@@ -167,7 +167,7 @@ impl Service {
     fn opened(self, event: Event, records: Records) -> Stepped
         ensures { accepted result ≡ opened_of self event.port event.event records }
     {
-        let turn = process_psu_event(self.present(records), self.cleared(), event);
+        let turn = process_psu_event(&self.present(records), self.cleared(), event);
         self.moved(0, turn)
     }
 
@@ -195,7 +195,7 @@ impl Service {
         ensures { accepted result ≡ answered_by self order answer records }
     {
         let present = self.present(records);
-        let turn = answered(present, self.phase, order, self.memory, answer);
+        let turn = answered(&present, self.phase, order, self.memory, answer);
         self.moved(self.orders, turn)
     }
 

@@ -15,7 +15,8 @@ use power_policy_interface::psu;
 use power_policy_interface::service::UnconstrainedState;
 use power_policy_service::consumer::find_best_consumer_default;
 
-// What a step of an event reads: what is registered, and the present records.
+// What a step of an event reads: what is registered, and the present records. Each step borrows it: by value the records of all ports were
+// copied for each, and `open` took 1,072 bytes more stack.
 #[derive(Clone, Copy)]
 pub struct Present {
     pub registration: Registration,
@@ -136,8 +137,8 @@ fn charger_stage(unpowered: bool, i: u8) -> Stage
 // both would be made anew for every step.
 impl Present {
     // The last step of an update, which closes the event without error (update_unconstrained_state).
-    pub fn finish_update(self, memory: Memory) -> Turn
-        ensures { result ≡ finish_update_of self.registration memory self.records }
+    pub fn finish_update(&self, memory: Memory) -> Turn
+        ensures { result ≡ finish_update_of self.now.registration memory self.now.records }
     {
         let new = UnconstrainedState {
             unconstrained: consumer_flag(memory.state.current_consumer_state),
@@ -147,8 +148,8 @@ impl Present {
     }
 
     // Checks that the new consumer can be connected, and orders it.
-    fn connect_psu(self, memory: Memory, new: AvailableConsumer) -> Turn
-        ensures { result ≡ connect_psu_of memory new self.records }
+    fn connect_psu(&self, memory: Memory, new: AvailableConsumer) -> Turn
+        ensures { result ≡ connect_psu_of memory new self.now.records }
     {
         match self.records.psu(new.psu).can_connect_consumer() {
             Ok(()) => connecting(Stage::Psu, new, memory),
@@ -157,8 +158,8 @@ impl Present {
     }
 
     // Detaches the powered chargers from one on, then connects the new consumer.
-    pub fn switch_from(self, mut memory: Memory, from: u8, switch: Switch) -> Turn
-        ensures { result ≡ switch_of self.registration memory from switch.old switch.flags switch.to self.records }
+    pub fn switch_from(&self, mut memory: Memory, from: u8, switch: Switch) -> Turn
+        ensures { result ≡ switch_of self.now.registration memory from switch.old switch.flags switch.to self.now.records }
     {
         match next_powered(self.records, self.registration.chargers, from) {
             Some(next) => Turn {
@@ -176,8 +177,8 @@ impl Present {
     }
 
     // Disconnects the old consumer's PSU if it is connected as consumer, and its chargers. From here on there is no consumer.
-    fn disconnect_current(self, memory: Memory, switch: Switch) -> Turn
-        ensures { result ≡ disconnect_of self.registration memory switch.old switch.flags switch.to self.records }
+    fn disconnect_current(&self, memory: Memory, switch: Switch) -> Turn
+        ensures { result ≡ disconnect_of self.now.registration memory switch.old switch.flags switch.to self.now.records }
     {
         let mut cleared = memory;
         cleared.state.current_consumer_state = None;
@@ -192,12 +193,12 @@ impl Present {
 
     // Connects a new consumer. The same port with the same capability needs nothing.
     fn connect_new_consumer(
-        self,
+        &self,
         memory: Memory,
         new: AvailableConsumer,
         flags: DisconnectFlags,
     ) -> Turn
-        ensures { result ≡ connect_new_of self.registration memory new flags self.records }
+        ensures { result ≡ connect_new_of self.now.registration memory new flags self.now.records }
     {
         match memory.state.current_consumer_state {
             None => self.connect_psu(memory, new),
@@ -220,8 +221,8 @@ impl Present {
     }
 
     // Detaches the powered chargers from one on, then no consumer is left.
-    pub fn leave_from(self, memory: Memory, from: u8, consumer: Disconnected) -> Turn
-        ensures { result ≡ leave_of self.registration memory from consumer.port consumer.flags self.records }
+    pub fn leave_from(&self, memory: Memory, from: u8, consumer: Disconnected) -> Turn
+        ensures { result ≡ leave_of self.now.registration memory from consumer.port consumer.flags self.now.records }
     {
         match next_powered(self.records, self.registration.chargers, from) {
             Some(next) => Turn {
@@ -233,8 +234,8 @@ impl Present {
     }
 
     // The consumer is connected: readies, initializes and attaches the chargers from one on.
-    pub fn charge_from(self, memory: Memory, i: u8, new: AvailableConsumer) -> Turn
-        ensures { result ≡ charge_of self.registration memory i new self.records }
+    pub fn charge_from(&self, memory: Memory, i: u8, new: AvailableConsumer) -> Turn
+        ensures { result ≡ charge_of self.now.registration memory i new self.now.records }
     {
         if i < self.registration.chargers {
             return connecting(charger_stage(self.records.unpowered(i), i), new, memory);
@@ -245,8 +246,8 @@ impl Present {
     }
 
     // The best consumer among the ports.
-    fn choose(self, memory: Memory) -> Option<AvailableConsumer>
-        ensures { result ≡ find_best_consumer self.registration memory.state self.records }
+    fn choose(&self, memory: Memory) -> Option<AvailableConsumer>
+        ensures { result ≡ find_best_consumer self.now.registration memory.state self.now.records }
     {
         find_best_consumer_default(
             self.registration.config.min_consumer_threshold_mw,
@@ -257,8 +258,8 @@ impl Present {
     }
 
     // Determines and connects the best external power.
-    pub fn update_current_consumer(self, memory: Memory, flags: DisconnectFlags) -> Turn
-        ensures { result ≡ update_of self.registration memory flags self.records }
+    pub fn update_current_consumer(&self, memory: Memory, flags: DisconnectFlags) -> Turn
+        ensures { result ≡ update_of self.now.registration memory flags self.now.records }
     {
         match (self.choose(memory), memory.state.current_consumer_state) {
             (Some(new), _) => self.connect_new_consumer(memory, new, flags),

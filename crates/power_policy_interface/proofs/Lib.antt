@@ -4,4 +4,5 @@ pub mod Numbered
 pub mod OneByte
 pub mod Order
 pub mod Past
+pub mod Product
 pub mod Same

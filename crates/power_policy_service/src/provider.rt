@@ -11,7 +11,7 @@ use power_policy_interface::limits::MAX_PORTS;
 use power_policy_interface::psu;
 
 // Current system provider power state.
-#[derive(Clone, Copy, Default)]
+#[derive(Clone, Copy, PartialEq, Eq, Default)]
 pub enum PowerState {
     // System is capable of providing high power.
     #[default]

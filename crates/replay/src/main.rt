@@ -42,35 +42,41 @@ struct Vector {
 
 // Each of the functions below matches the operation for itself, as `Vector` says.
 impl Vector {
-    // What follows the operation.
-    fn read<R: Read>(operation: u8, input: &mut R) -> io::Result<Vector> {
+    // The parts of a vector's bytes, each by its place. Called at one place: no From.
+    fn of(bytes: [u8; 49]) -> Vector {
         let mut v = Vector {
-            operation,
+            operation: bytes[0],
             before: [0; 18],
             argument: [0; 6],
             answer: told(0, 0, 0),
         };
-        input.read_exact(&mut v.before)?;
-        input.read_exact(&mut v.argument)?;
-        input.read_exact(&mut v.answer.result)?;
-        input.read_exact(&mut v.answer.record)?;
-        Ok(v)
+        v.before.copy_from_slice(&bytes[1..19]);
+        v.argument.copy_from_slice(&bytes[19..25]);
+        v.answer.result.copy_from_slice(&bytes[25..31]);
+        v.answer.record.copy_from_slice(&bytes[31..]);
+        v
     }
 
-    // Whether the answer is the one that the port gives.
+    // Whether the answer is the one that the port gives: six bytes 255, which no call gives, for what the port does not take.
     fn agrees(self) -> bool {
-        self.ask() == Some(self.answer)
+        let untaken = Answer {
+            result: [255; 6],
+            record: [0; 18],
+        };
+        self.ask().unwrap_or(untaken) == self.answer
     }
 }
 
-// Whether the next vector agrees, if there is one: a last one that is cut short does not.
+// Whether the next vector agrees, if there is one: a last one that is cut short does not. It is read at once: standard input has no buffer
+// here, and each read is a call of the system.
 fn next<R: Read>(input: &mut R) -> io::Result<Option<bool>> {
-    let mut operation = [0u8; 1];
-    if input.read(&mut operation)? == 0 {
+    let mut bytes = [0u8; 49];
+    let got = input.read(&mut bytes)?;
+    if got == 0 {
         return Ok(None);
     }
-    match Vector::read(operation[0], input) {
-        Ok(v) => Ok(Some(v.agrees())),
+    match input.read_exact(&mut bytes[got..]) {
+        Ok(()) => Ok(Some(Vector::of(bytes).agrees())),
         Err(e) if e.kind() == ErrorKind::UnexpectedEof => Ok(Some(false)),
         Err(e) => Err(e),
     }

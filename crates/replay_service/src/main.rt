@@ -81,11 +81,17 @@ fn unless_cut<T>(read: io::Result<T>) -> io::Result<Option<T>> {
 
 // The next call, none at the end. Where the input ends after the letter the byte counts as 0: what a call leads to is missing then too, so that it differs.
 fn read_call<R: Read>(input: &mut R) -> io::Result<Option<Call>> {
-    let Some(letter) = unless_cut(read_array::<R, 1>(input))? else {
+    let mut bytes = [0u8; 2];
+    // (Both at once: standard input has no buffer here, and each read is a call of the system.)
+    let got = input.read(&mut bytes)?;
+    if got == 0 {
         return Ok(None);
-    };
-    let [byte] = unless_cut(read_array::<R, 1>(input))?.unwrap_or([0]);
-    Ok(Some(match letter[0] {
+    }
+    if got == 1 && unless_cut(input.read_exact(&mut bytes[1..]))?.is_none() {
+        bytes[1] = 0;
+    }
+    let [letter, byte] = bytes;
+    Ok(Some(match letter {
         b'S' => Call::Start(byte),
         b'O' => Call::Event(byte),
         b'A' => Call::Answer(byte),

@@ -20,7 +20,7 @@ use Rattle.interface_display.specs.declared.packet.EventPacket.{EventPacket}
 use Rattle.interface_display.specs.declared.packet.Packet.{Packet}
 use Rattle.interface_display.specs.declared.packet.Picture.{Picture}
 use Rattle.interface_display.proofs.Count.{ones_le}
-use Rattle.interface_display.proofs.Four.{at_most_four}
+use Rattle.interface_display.proofs.Four.{counted, at_most_four}
 use Rattle.wire.specs.Number.{leb128}
 use Rattle.wire.specs.Bytes.{capability_bytes, contract_bytes, notice_bytes, all_bytes, ports_bytes, consumer_bytes, event_bytes, picture_bytes, packet_bytes}
 use Rattle.wire.specs.WellFormed.{contract_fits, notice_fits, notices_fit, consumer_fits, event_fits, picture_fits, well_formed}
@@ -68,7 +68,7 @@ event_length p h =
     let g = (and_parts (padded p.notices) _ h4).0 in
     let f = (and_parts (padded p.notices) (notices_fit (listed p.notices)) h4).1 in
     let tail = length_of p.notices ∷ all_bytes (listed p.notices) in
-    omega (arith, length-append (leb128 p.number) (p.answer ∷ (leb128 p.orders ++ tail)), length-append (leb128 p.orders) tail, length_to p.number, length_to p.orders, all_length (listed p.notices) f, at_most_four p.notices g)
+    omega (arith, length-append (leb128 p.number) (p.answer ∷ (leb128 p.orders ++ tail)), length-append (leb128 p.orders) tail, length_to p.number, length_to p.orders, all_length (listed p.notices) f, at_most_four p.notices (counted p.notices g).1.0)
 
 consumer_length : (c : Option AvailableConsumer) → consumer_fits c ≡ true → length (consumer_bytes c) ≤ 9
 unfolding consumer_bytes

@@ -19,7 +19,7 @@ use Rattle.interface_display.specs.Notices.{empty, pushed, listed, length_of, pa
 use Rattle.interface_display.specs.declared.notices.Notices.{Notices}
 use Rattle.interface_display.specs.declared.packet.EventPacket.{EventPacket}
 use Rattle.interface_display.specs.declared.packet.Packet.{Packet}
-use Rattle.interface_display.proofs.Four.{at_most_four, rebuilt, padded_rebuilt}
+use Rattle.interface_display.proofs.Four.{counted, at_most_four, rebuilt, padded_rebuilt}
 use Rattle.wire.specs.Number.{leb128}
 use Rattle.wire.specs.Parser.{parsed, field}
 use Rattle.wire.specs.Packet.{capability, contract, consumer, unconstrained, consumer_disconnected, consumer_connected, provider_disconnected, provider_connected, unconstrained_changed, notice_of, notice, notices, event_notices, event_after, event, packet_of, packet}
@@ -91,10 +91,10 @@ appended_rebuilt (a ∷ b ∷ c ∷ d ∷ []) h = refl
 appended_rebuilt (a ∷ b ∷ c ∷ d ∷ e ∷ l) h = absurd (omega arith)
 
 all_listed : (n : Notices) → padded n ≡ true → appended empty (listed n) ≡ n
-all_listed n h = appended_rebuilt (listed n) (at_most_four n h) ∙ padded_rebuilt n h
+all_listed n h = appended_rebuilt (listed n) (at_most_four n (counted n h).1.0) ∙ padded_rebuilt n h
 
 count_fits : (n : Notices) → padded n ≡ true → leb (length_of n) 4 ≡ true
-count_fits n h = le-leb (length_of n) 4 (at_most_four n h)
+count_fits n h = le-leb (length_of n) 4 (at_most_four n (counted n h).1.0)
 
 -- an event packet
 

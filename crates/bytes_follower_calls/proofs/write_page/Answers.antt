@@ -18,6 +18,6 @@ pub returns-in-Ok : goal.returns-in-Ok
 returns-in-Ok c =
     let e = of_page (follower_from c.args.image.now) c.in-Ok.page c.args.buffer.now (sym c.in-Ok.is ∙ c.page_in.ensures) in
     record {
-      value = c.stored.ensures ∙ (ap written_as c.write.ensures.value ∙ ap (λ (y : Called). y.number) e);
+      value = c.stored.ensures ∙ (ap written_as (c.by_number.ensures ∙ c.write.ensures.value) ∙ ap (λ (y : Called). y.number) e);
       buffer_after = c.write.ensures.written ∙ ap (λ (y : Called). y.bytes) e;
     }

@@ -1,17 +1,17 @@
 use Rattle.std.proofs.Common.{rules, ap, ◌∙◌}
 use Rattle.abstract_calls.specs.Called.{Called}
-use Rattle.abstract_calls.specs.Lent.{written_call}
+use Rattle.abstract_calls.specs.Lent.{written_as, written_call}
 use Rattle.wire.specs.Bytes.{picture_bytes}
 use Rattle.bytes_service_calls.proofs.Asked.{picture_asked}
 use Rattle.bytes_service_calls.proofs.write_picture.Goals as goal
 
 pub returns-clause-value : goal.returns-clause-value
 returns-clause-value c =
-    c.stored.ensures
-    ∙ (c.try_write.ensures.value (λ x b. written_call (picture_bytes x) b) (λ x b l w k. search rules)
+    (c.stored.ensures ∙ ap written_as c.by_number.ensures)
+    ∙ (c.try_write-written.ensures.value (λ x b. written_call (picture_bytes x) b) (λ x b l w k. search rules)
     ∙ ap (λ (y : Called). y.number) (picture_asked _ _ _ (rw c.service_in.ensures at c.and_then-picture.ensures)))
 
 pub returns-clause-buffer_after : goal.returns-clause-buffer_after
 returns-clause-buffer_after c =
-    c.try_write.ensures.buffer_after (λ x b. written_call (picture_bytes x) b) (λ x b l w k. search rules)
+    c.try_write-written.ensures.buffer_after (λ x b. written_call (picture_bytes x) b) (λ x b l w k. search rules)
     ∙ ap (λ (y : Called). y.bytes) (picture_asked _ _ _ (rw c.service_in.ensures at c.and_then-picture.ensures))

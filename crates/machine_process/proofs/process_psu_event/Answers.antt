@@ -10,4 +10,4 @@ returns-in-UpdatedConsumerCapability c =
     let a = c.args in
     let e : c.default.result ≡ no_reason = λ i. record { reason = c.default.ensures i } in
     rw c.in-UpdatedConsumerCapability.is
-    (c.update_current_consumer.ensures ∙ ap (λ (f : DisconnectFlags). update_of a.present.registration a.memory f a.present.records) e)
+    (c.update_current_consumer.ensures ∙ ap (λ (f : DisconnectFlags). update_of a.present.now.registration a.memory f a.present.now.records) e)

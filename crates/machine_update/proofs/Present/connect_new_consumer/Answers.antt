@@ -6,10 +6,10 @@ pub returns-then-eq : goal.returns-then-eq
 returns-then-eq c =
     let a = c.args in
     c.finish_update.ensures
-    ∙ sym (connects a.memory.state.current_consumer_state c.in-Some.current a.new _ a.self.registration a.memory a.flags a.self.records c.in-Some.is (sym c.if-eq.true ∙ c.eq.ensures))
+    ∙ sym (connects a.memory.state.current_consumer_state c.in-Some.current a.new _ a.self.now.registration a.memory a.flags a.self.now.records c.in-Some.is (sym c.if-eq.true ∙ c.eq.ensures))
 
 pub returns-else-eq : goal.returns-else-eq
 returns-else-eq c =
     let a = c.args in
     c.disconnect_current.ensures
-    ∙ sym (connects a.memory.state.current_consumer_state c.in-Some.current a.new _ a.self.registration a.memory a.flags a.self.records c.in-Some.is (sym c.if-eq.false ∙ c.eq.ensures))
+    ∙ sym (connects a.memory.state.current_consumer_state c.in-Some.current a.new _ a.self.now.registration a.memory a.flags a.self.now.records c.in-Some.is (sym c.if-eq.false ∙ c.eq.ensures))
