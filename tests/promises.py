@@ -2,7 +2,7 @@
 """usage: promises.py [--write]
 
 Holds docs/PROMISES.md and docs/FUNCTIONS.md against the sources. Of a crate with a table of functions in docs/FUNCTIONS.md: each row's function is there and as
-public as the row says, each function has its row, the wrong answers that the row names are those of the edits that break the function, in their order and words, and
+public as the row says, each function but a #[test] has its row, the wrong answers that the row names are those of the edits that break the function, in their order and words, and
 what is counted above the table is what the table has. Of both: every name in the columns of definitions, functions, laws and theorems is declared somewhere, every
 file named there is there, every edit in a column of edits is there, and every table has its head.
 Of the edits: each line '# breaks: FUNCTION' names a function of the crate, the line after it says in words what the wrong answer is, and what is replaced for it follows; and what an edit replaces stands
@@ -94,6 +94,8 @@ def functions(crate):
                 if of in derives.group(1).split(", ") and name in broken:
                     found[name] = ("", "the fields', by the derive")
             m = re.match(r' *(pub |pub\(crate\) )?(?:unsafe )?(?:extern "C" )?(?:const )?fn (\w+)(?:<.*?>)?\(', line)
+            if m and not m.group(1) and lines[k - 1] == "#[test]":
+                continue
             if m and not re.search(r"\)[^{]*;$", line):
                 public = {None: "private", "pub ": "", "pub(crate) ": "in the crate"}[m.group(1)]
                 j, clauses = k, ""

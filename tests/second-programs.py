@@ -90,7 +90,7 @@ def functions(crate, root):
                 if lines[i] == "}":
                     inside = None
                 m = re.match(r'( *)(pub(\(crate\))? )?(extern "C" )?(const )?fn (%s)(?:<[^(]*>)?\(' % WORD, lines[i])
-                if m:
+                if m and (m.group(2) or lines[i - 1] != "#[test]"):  # (a test has no contract)
                     indent = m.group(1)
                     start = i
                     while not (lines[start] == indent + "{" or lines[start].endswith((" {", ";"))):

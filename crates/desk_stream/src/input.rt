@@ -1,6 +1,6 @@
 // A run between two reads: the desk, the lines that are not written out yet, and the bytes that are read and not taken yet. Where lines go
 // is handed on in two, as sink.rt says.
-ghost use Rattle.std.specs.Prelude.{◌≡◌, ◌≤◌, ◌<◌, ◌++◌, ℕ, List, Option, length, OnOk};
+ghost use Rattle.std.specs.Prelude.{◌≡◌, ◌-◌, ◌≤◌, ◌<◌, ◌++◌, ℕ, List, Option, min, length, OnOk};
 ghost use Rattle.std.specs.Option.{option_map};
 ghost use Rattle.desk_report.specs.Buffer.{given, Reads};
 ghost use Rattle.desk_report.specs.Desk.{end_bytes};
@@ -22,13 +22,24 @@ pub(crate) struct Stream {
     pub(crate) input: Bytes<4096>,
 }
 
-// Reads once, after the bytes that are there, and says how many bytes came; none where the reader failed. They come by a memory of its own:
-// that of `Bytes` is lent to no reader, so that this library alone calls the system.
-fn fill<R: Read>(input: &mut Bytes<4096>, reader: &mut R) -> Option<usize>
-    ensures { (c : Option (List ℕ)) × (result ≡ option_map length c) × (input.new ≡ input.old ++ given c) × Reads 4096 input.old (R.remaining reader.old) (R.remaining reader.new) c }
+// How many bytes a read is to bring: what has room, at most 4,096. N is known when this is compiled, so that the programs, whose memory has
+// 4,096 bytes, ask nothing here.
+fn at_once<const N: usize>(input: &Bytes<N>) -> usize
+    ensures value { result ≡ min (N - length input.now) 4096 }
+    ensures fits { length input.now ≤ N }
+{
+    let room = input.room();
+    if N <= 4096 { room } else { room.min(4096) }
+}
+
+// Reads once, after the bytes that are there, and says how many bytes came; none where the reader failed. They come by a memory of its own, at
+// most 4,096 at once: that of `Bytes` is lent to no reader, so that this library alone calls the system. Public for whoever reads into a `Bytes`
+// elsewhere.
+pub fn fill<const N: usize, R: Read>(input: &mut Bytes<N>, reader: &mut R) -> Option<usize>
+    ensures { (c : Option (List ℕ)) × (result ≡ option_map length c) × (input.new ≡ input.old ++ given c) × Reads N input.old (R.remaining reader.old) (R.remaining reader.new) c }
 {
     let mut chunk = [0; 4096];
-    let room = input.room();
+    let room = at_once(input);
     let Ok(n) = reader.read(&mut chunk[..room]) else {
         return None;
     };

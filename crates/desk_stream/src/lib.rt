@@ -4,9 +4,11 @@
 // are handed on each as it is: two are lent and one is a value, and a struct of them would be made at each call.
 #![tactic(auto)]
 
-mod input;
+pub mod input;
 pub mod sink;
 mod take;
+#[cfg(test)]
+mod tests;
 
 ghost use Rattle.std.specs.Prelude.{◌≡◌, [], IfSome};
 ghost use Rattle.desk_report.specs.Desk.{output_of, desk_of};
